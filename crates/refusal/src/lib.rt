@@ -8,7 +8,7 @@ ghost use Rattle.refusal.specs.Causes.{numberOf, layerOf, wordsOf, nameOf, pri
 use std::fmt;
 
 /// The part of the monitor that refused.
-#[derive(Clone, Copy, Debug, PartialEq, Eq)]
+#[derive(Clone, Copy)]
 pub enum Layer {
     Table,
     Mode,
@@ -18,7 +18,7 @@ pub enum Layer {
 }
 
 /// Why a call was refused. The list is closed: no call refuses for another reason.
-#[derive(Clone, Copy, Debug, PartialEq, Eq)]
+#[derive(Clone, Copy)]
 pub enum Cause {
     NodeCount,
     OverLimit,
@@ -130,7 +130,7 @@ impl Cause {
 }
 
 /// A refused call: the cause, and the place that it names (a node, a position, a fact's index, ..).
-#[derive(Clone, Copy, Debug, PartialEq, Eq)]
+#[derive(Clone, Copy)]
 pub struct Refusal {
     pub cause: Cause,
     pub place: usize,

@@ -1,0 +1,4 @@
+pub mod Sets
+pub mod Formula
+pub mod Form
+pub mod Formed

@@ -41,7 +41,7 @@ impl Table {
     pub fn declare(&mut self, predicate: u8, declaration: Declaration) -> Result<(), Refusal>
         ensures refusal { λ r. ⌜ errPart r ≡ first (ask OverLimit 0 (ltb 63 predicate) ∷ []) ⌝ }
         ensures nodes { λ _. ⌜ now (self .exit) .nodes ≡ now (self .entry) .nodes ⌝ }
-        ensures declarations { λ _. ⌜ now (self .exit) .declarations ≡ set (now (self .entry) .declarations) predicate (Some declaration) ⌝ }
+        ensures declarations { λ r. ⌜ now (self .exit) .declarations ≡ cond (isOk r) (set (now (self .entry) .declarations) predicate (Some declaration)) (now (self .entry) .declarations) ⌝ }
     {
         let place = usize::from(predicate);
         if place > 63 {

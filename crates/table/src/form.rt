@@ -157,7 +157,8 @@ fn not_declared(node: Node, declarations: &[Option<Declaration>]) -> bool
     }
 }
 
-pub(crate) fn declaration_of(declarations: &[Option<Declaration>], predicate: u8) -> Option<Declaration>
+/// What is declared of a predicate, nothing past the end.
+pub fn declaration_of(declarations: &[Option<Declaration>], predicate: u8) -> Option<Declaration>
     ensures { λ r. ⌜ r ≡ getD (now (declarations .entry)) predicate None ⌝ }
 {
     let predicate = usize::from(predicate);

@@ -6,6 +6,7 @@ mod raw_table;
 mod small_set;
 mod terms;
 
+pub use form::declaration_of;
 pub use form::form_rules_stand;
 pub use free::FreeSets;
 pub use node::Declaration;

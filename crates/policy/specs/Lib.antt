@@ -1,0 +1,3 @@
+pub mod Modes
+pub mod Outlined
+pub mod Wait

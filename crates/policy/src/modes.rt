@@ -1,0 +1,153 @@
+//! The recursive mode checks over the node table.
+ghost use mathlib.Core.Path.{_≡_};
+ghost use mathlib.Core.Bool.{Bool, true, false};
+ghost use mathlib.Core.List.{List};
+ghost use Prim.Native.Nat.{ℕ, _<_, _≤_};
+ghost use lib.ListN.{length, getD};
+ghost use Rattle.std.specs.declared.option.Option.the-variants.{None};
+ghost use Rattle.table.specs.Sets.{members, none, _∪_, _⊆_};
+ghost use Rattle.table.specs.Formula.{formulas, formulaAt, formulaOf, arguments};
+ghost use Rattle.table.specs.Form.{notBelow, nodeAt};
+ghost use Rattle.policy.specs.Modes.{givenOf, needed, sameOutside, bindsAll, startOf, searching, walk, walkSides, ifOnly};
+ghost use Rattle.policy.specs.Outlined.{Outlined};
+use table::Declaration;
+use table::FreeSets;
+use table::Node;
+use table::SmallSet;
+use table::Terms;
+use table::declaration_of;
+
+/// What a formula is checked for: that it can be searched, or that its rows can be built.
+#[derive(Clone, Copy)]
+pub(crate) enum Mode {
+    Search,
+    Build,
+}
+
+fn is_search(mode: Mode) -> bool
+    ensures { λ r. ⌜ r ≡ searching mode ⌝ }
+{
+    match mode {
+        Mode::Search => true,
+        Mode::Build => false,
+    }
+}
+
+fn start_of(mode: Mode, known: SmallSet) -> SmallSet
+    ensures { λ r. ⌜ members r ≡ startOf mode (members known) ⌝ }
+{
+    match mode {
+        Mode::Search => known,
+        Mode::Build => SmallSet::none(),
+    }
+}
+
+fn given_of(declaration: Option<Declaration>) -> SmallSet
+    ensures { λ r. ⌜ members r ≡ givenOf declaration ⌝ }
+{
+    match declaration {
+        Some(declaration) => declaration.given,
+        None => SmallSet::none(),
+    }
+}
+
+fn same_outside(known: SmallSet, left: SmallSet, right: SmallSet) -> bool
+    ensures { λ r. ⌜ r ≡ sameOutside (members known) (members left) (members right) ⌝ }
+{
+    let left = left.minus(known);
+    let right = right.minus(known);
+    left.within(right) && right.within(left)
+}
+
+fn binds_all(known: SmallSet, variables: SmallSet, left: SmallSet, right: SmallSet) -> bool
+    ensures { λ r. ⌜ r ≡ bindsAll (members known) (members variables) (members left) (members right) ⌝ }
+{
+    variables.within(left) && left.union(right).within(known.union(variables))
+}
+
+/// Ok where the condition holds, else the node that it is asked of.
+fn if_only(holds: bool, n: usize) -> Result<(), usize>
+    ensures { λ r. ⌜ r ≡ ifOnly holds n ⌝ }
+{
+    if holds { Ok(()) } else { Err(n) }
+}
+
+/// A table that keeps the form rules, lent for the walk, with the free variables of its nodes.
+#[derive(Clone, Copy)]
+pub(crate) struct Outline<'a> {
+    pub(crate) nodes: &'a [Node],
+    pub(crate) declarations: &'a [Option<Declaration>],
+    pub(crate) free: &'a FreeSets,
+}
+
+impl Outline<'_> {
+    /// Where the walk from node n first fails, with these variables known.
+    pub(crate) fn walk(self, mode: Mode, n: usize, known: SmallSet) -> Result<(), usize>
+        requires { ⌜ n < length (self .nodes .now) ⌝ ∗ ⌜ Outlined (self .nodes .now) (self .free .now) ⌝ }
+        ensures { λ r. ⌜ r ≡ walk mode (self .entry .declarations .now) (formulaAt (self .entry .nodes .now) n) (members known) ⌝ }
+    {
+        self.walk_node(mode, n, self.nodes[n], known)
+    }
+
+    /// The same at a node that is read already.
+    fn walk_node(self, mode: Mode, n: usize, node: Node, known: SmallSet) -> Result<(), usize>
+        requires { ⌜ n < length (self .nodes .now) ⌝ ∗ ⌜ Outlined (self .nodes .now) (self .free .now) ⌝ ∗ ⌜ notBelow n node ≡ false ⌝ }
+        ensures { λ r. ⌜ r ≡ walk mode (self .entry .declarations .now) (formulaOf (formulas (self .entry .nodes .now)) n node) (members known) ⌝ }
+    {
+        match node {
+            Node::True | Node::False => Ok(()),
+            Node::Atom { predicate, terms } => if_only(self.needed(predicate, terms).within(known), n),
+            Node::And { left, right } => {
+                self.walk(mode, left, known)?;
+                self.walk(mode, right, known.union(self.free[left]))
+            }
+            Node::Or { left, right } => {
+                self.walk(mode, left, known)?;
+                self.walk(mode, right, known)?;
+                if_only(same_outside(known, self.free[left], self.free[right]), n)
+            }
+            Node::Exists { variables, body } => {
+                self.walk(mode, body, known)?;
+                if_only(variables.within(self.free[body]), n)
+            }
+            Node::Forall { variables, left, right } => {
+                self.walk(mode, left, known)?;
+                self.walk(mode, right, known.union(variables))?;
+                if_only(binds_all(known, variables, self.free[left], self.free[right]), n)
+            }
+            Node::Prev { body, .. } | Node::Once { body, .. } => self.walk(mode, body, start_of(mode, known)),
+            Node::Next { body, .. } | Node::Event { body, .. } => {
+                if_only(is_search(mode), n)?;
+                self.walk(mode, body, known)
+            }
+            Node::Hist { body, .. } | Node::Always { body, .. } => {
+                if_only(is_search(mode), n)?;
+                self.walk(mode, body, known)?;
+                if_only(self.free[body].within(known), n)
+            }
+            Node::Since { left, right, .. } => self.walk_sides(mode, n, left, right, start_of(mode, known)),
+            Node::Until { left, right, .. } => {
+                if_only(is_search(mode), n)?;
+                self.walk_sides(mode, n, left, right, known)
+            }
+        }
+    }
+
+    /// The sides of a since or an until: right first, then left with right's variables known.
+    fn walk_sides(self, mode: Mode, n: usize, left: usize, right: usize, known: SmallSet) -> Result<(), usize>
+        requires { ⌜ n < length (self .nodes .now) ⌝ ∗ ⌜ Outlined (self .nodes .now) (self .free .now) ⌝ ∗ ⌜ left < n ⌝ ∗ ⌜ right < n ⌝ }
+        ensures { λ r. ⌜ r ≡ walkSides mode (self .entry .declarations .now) n (formulaAt (self .entry .nodes .now) left) (formulaAt (self .entry .nodes .now) right) (members known) ⌝ }
+    {
+        self.walk(mode, right, known)?;
+        let after = known.union(self.free[right]);
+        self.walk(mode, left, after)?;
+        if_only(self.free[left].within(after), n)
+    }
+
+    /// The variables at the arguments of an atom that must be given.
+    fn needed(self, predicate: u8, terms: Terms) -> SmallSet
+        ensures { λ r. ⌜ members r ≡ needed (self .entry .declarations .now) predicate (arguments terms) ⌝ }
+    {
+        terms.variables_at(given_of(declaration_of(self.declarations, predicate)))
+    }
+}

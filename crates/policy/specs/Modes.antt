@@ -68,23 +68,27 @@ searchable D K f = moded Search D f K
 abbrev pub buildable : Declarations → NumberSet → Formula → Bool
 buildable D K f = moded Build D f K
 
--- a prev, once or since is cached if it is buildable; what is known plays no part, since it starts from nothing
+-- prev, once and since
+abbrev pub overPast : Formula → Bool
+overPast (verum n) = false
+overPast (falsum n) = false
+overPast (atom n p ts) = false
+overPast (and n l r) = false
+overPast (or n l r) = false
+overPast (exists n vs b) = false
+overPast (forall n vs l r) = false
+overPast (prev n i b) = true
+overPast (once n i b) = true
+overPast (hist n i b) = false
+overPast (next n i b) = false
+overPast (event n i b) = false
+overPast (always n i b) = false
+overPast (since n i l r) = true
+overPast (until n i l r) = false
+
+-- a prev, once or since is cached exactly if it is buildable; what is known plays no part, since it starts from nothing
 abbrev pub cached : Declarations → Formula → Bool
-cached D (verum n) = false
-cached D (falsum n) = false
-cached D (atom n p ts) = false
-cached D (and n l r) = false
-cached D (or n l r) = false
-cached D (exists n vs b) = false
-cached D (forall n vs l r) = false
-cached D (prev n i b) = buildable D none (prev n i b)
-cached D (once n i b) = buildable D none (once n i b)
-cached D (hist n i b) = false
-cached D (next n i b) = false
-cached D (event n i b) = false
-cached D (always n i b) = false
-cached D (since n i l r) = buildable D none (since n i l r)
-cached D (until n i l r) = false
+cached D f = overPast f && buildable D none f
 
 -- The walk that looks for the failing node: from the root to the leaves, left before right, but right first at since
 -- and until; a node's own conditions on sets come after its operands. It answers Ok, or the node where it first fails.

@@ -6,9 +6,9 @@ ghost use Prim.Native.Nat.{ℕ, _<_, _≤_};
 ghost use lib.ListN.{length, getD};
 ghost use Rattle.std.specs.declared.option.Option.the-variants.{None};
 ghost use Rattle.table.specs.Sets.{members, none, _∪_, _⊆_};
-ghost use Rattle.table.specs.Formula.{formulas, formulaAt, formulaOf, arguments};
+ghost use Rattle.table.specs.Formula.{Formula, formulas, formulaAt, formulaOf, arguments};
 ghost use Rattle.table.specs.Form.{notBelow, nodeAt};
-ghost use Rattle.policy.specs.Modes.{givenOf, needed, sameOutside, bindsAll, startOf, searching, walk, walkSides, ifOnly};
+ghost use Rattle.policy.specs.Modes.{givenOf, needed, sameOutside, bindsAll, startOf, searching, walk, walkSides, ifOnly, overPast, cached, WalkTells};
 ghost use Rattle.policy.specs.Outlined.{Outlined};
 use table::Declaration;
 use table::FreeSets;
@@ -70,6 +70,15 @@ fn if_only(holds: bool, n: usize) -> Result<(), usize>
     ensures { λ r. ⌜ r ≡ ifOnly holds n ⌝ }
 {
     if holds { Ok(()) } else { Err(n) }
+}
+
+fn is_over_past(node: Node) -> bool
+    ensures { λ r. ⌜ ((fs : List Formula) (n : ℕ) → r ≡ overPast (formulaOf fs n node)) ⌝ }
+{
+    match node {
+        Node::Prev { .. } | Node::Once { .. } | Node::Since { .. } => true,
+        _ => false,
+    }
 }
 
 /// A table that keeps the form rules, lent for the walk, with the free variables of its nodes.
@@ -150,4 +159,31 @@ impl Outline<'_> {
     {
         terms.variables_at(given_of(declaration_of(self.declarations, predicate)))
     }
+}
+
+impl Outline<'_> {
+    /// Whether the node n keeps rows: a prev, once or since that is buildable.
+    fn is_cached(self, n: usize) -> bool
+        requires { ⌜ n < length (self .nodes .now) ⌝ ∗ ⌜ Outlined (self .nodes .now) (self .free .now) ⌝ }
+        ensures { λ r. ⌜ r ≡ cached (self .entry .declarations .now) (formulaAt (self .entry .nodes .now) n) ⌝ }
+    {
+        is_over_past(self.nodes[n]) && self.walk(Mode::Build, n, SmallSet::none()).is_ok()
+    }
+
+    pub(crate) fn cached(self) -> [bool; 32]
+        requires { ⌜ Outlined (self .nodes .now) (self .free .now) ⌝ }
+        ensures { λ r. ⌜ ((n : ℕ) → n < length (self .entry .nodes .now) → getD r n false ≡ cached (self .entry .declarations .now) (formulaAt (self .entry .nodes .now) n)) ⌝ }
+    {
+        let mut marks = [false; 32];
+        for n in 0..self.nodes.len() {
+            marks[n] = self.is_cached(n);
+        }
+        marks
+    }
+}
+
+/// The theorem that the walk fails exactly if the rules of modes do not hold.
+pub fn walk_stands()
+    ensures { λ _. ⌜ WalkTells ⌝ }
+{
 }

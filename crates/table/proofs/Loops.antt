@@ -1,10 +1,11 @@
 -- Loops over a list, each by what is left of it.
-use mathlib.Core.Path.{_≡_, refl, sym, ap, _∙_}
+use mathlib.Core.Path.{_≡_, refl, sym, ap, subst, _∙_}
 use mathlib.Core.Bool.{Bool, true, false, _||_, cond}
 use mathlib.Core.List.{List, [], _∷_, _++_}
 use Prim.Native.Nat.{ℕ, _+_, _<_, _≤_}
-use lib.ListN.{length, getD, drop}
-use Rattle.std.proofs.shelf.Lists.{at-drop-more, at-drop-all}
+use borrow.Author.Count.{below-more}
+use lib.ListN.{length, getD, set, drop}
+use Rattle.std.proofs.shelf.Lists.{at-drop-more, at-drop-all, getD-set-same, getD-set-other}
 use native.Mathlib.Omega.{arith}
 use Rattle.std.specs.Joined.{joined}
 use Rattle.table.specs.declared.node.Node.{Node}
@@ -26,7 +27,7 @@ module _ {X : Type 0} (p : X → Bool) (xs : List X) (i : ℕ) (inv : some p (dr
   some-none h = sym (at-drop-all (some p) xs i h) ∙ inv
 
 -- the parents of a node, counted one by one
-times-append : (k : ℕ) (xs ys : List ℕ) → times k (xs ++ ys) ≡ times k xs + times k ys
+pub times-append : (k : ℕ) (xs ys : List ℕ) → times k (xs ++ ys) ≡ times k xs + times k ys
 times-append k [] ys = omega arith
 times-append k (x ∷ xs) ys = omega (arith, times-append k xs ys)
 
@@ -37,3 +38,10 @@ module _ (ns : List Node) (k : ℕ) where
 
   pub count-done : (i sum : ℕ) → length ns ≤ i → sum + parentCount (drop i ns) k ≡ parentCount ns k → sum ≡ parentCount ns k
   count-done i sum h inv = omega (arith, inv, at-drop-all (λ (l : List Node). parentCount l k) ns i h)
+
+-- an array that is filled place by place
+pub fill-more : {X : Type 0} (P : ℕ → X → Type 0) (xs : List X) (d x : X) (i : ℕ) → i < length xs → ((j : ℕ) → j < i → P j (getD xs j d)) → P i x → (j : ℕ) → j < i + 1 → P j (getD (set xs i x) j d)
+fill-more {X} P xs d x i h inv here =
+    below-more _ _
+    (λ j l. let e : getD (set xs i x) j d ≡ getD xs j d = getD-set-other xs i j x d (λ e. omega arith) in subst (λ (y : X). P j y) (sym e) (inv j l))
+    (subst (λ (y : X). P i y) (sym (getD-set-same xs i x d h)) here)

@@ -6,15 +6,15 @@ use Prim.Native.Nat.{ℕ, zero, suc, _+_, _<_, _≤_}
 use native.Mathlib.Omega.{arith}
 use lib.Dec.{leb}
 use lib.ListN.{length, getD, set, length-append}
-use borrow.Author.Count.{below-more}
 use Rattle.std.specs.shelf.Lists.{All}
-use Rattle.std.proofs.shelf.Lists.{getD-append-left, getD-at, getD-set-same, getD-set-other}
+use Rattle.std.proofs.shelf.Lists.{getD-append-left, getD-at, getD-past}
 use Rattle.std.proofs.shelf.Tests.{leb-false, or-parts}
 use Rattle.table.specs.declared.small_set.SmallSet.{SmallSet}
 use Rattle.table.specs.declared.node.Node.{Node}
 use Rattle.table.specs.declared.node.Node.the-variants.{True, False, Atom, And, Or, Exists, Forall, Prev, Once, Hist, Next, Event, Always, Since, Until}
 use Rattle.table.specs.Sets.{NumberSet, members}
 use Rattle.table.specs.Formula.{Formula, verum, falsum, atom, and, or, exists, forall, prev, once, hist, next, event, always, since, until, free, formulaOf, onward, formulas, formulaAt, FreeUpTo}
+use Rattle.table.proofs.Loops.{fill-more}
 use Rattle.table.specs.Form.{some, children, notBelow, nodeAt}
 
 -- the children of a node that keeps rule 3
@@ -75,6 +75,15 @@ unrolled ns n lt ok = each [] ns n n (omega arith) lt (children-below n (nodeAt 
 -- the free variables of one node more
 pub free-more : (ss : List SmallSet) (ns : List Node) (i : ℕ) (s : SmallSet) → i < length ns → i < length ss → notBelow i (nodeAt ns i) ≡ false → FreeUpTo ss i (formulas ns) → members s ≡ free (formulaOf (formulas ns) i (nodeAt ns i)) → FreeUpTo (set ss i s) (i + 1) (formulas ns)
 free-more ss ns i s h k ok inv e =
-    below-more _ _
-    (λ j l. ap members (getD-set-other ss i j s (record { mask = 0 }) (λ d. omega arith)) ∙ inv j l)
-    (ap members (getD-set-same ss i s (record { mask = 0 }) k) ∙ e ∙ ap free (sym (unrolled ns i h ok)))
+    fill-more (λ (j : ℕ) (x : SmallSet). members x ≡ free (formulaAt ns j)) ss (record { mask = 0 }) s i k inv (e ∙ ap free (sym (unrolled ns i h ok)))
+
+-- there is a formula for each node, and none past the last
+length-onward : (done : List Formula) (xs : List Node) → length (onward done xs) ≡ length done + length xs
+length-onward done [] = omega arith
+length-onward done (x ∷ xs) =
+    let f = formulaOf done (length done) x in
+    omega (arith, length-onward (done ++ f ∷ []) xs, grown done f)
+
+pub formula-past : (ns : List Node) (n : ℕ) → length ns ≤ n → formulaAt ns n ≡ verum 0
+unfolding formulas
+formula-past ns n h = getD-past (onward [] ns) n (verum 0) (omega (arith, length-onward [] ns))

@@ -23,7 +23,7 @@ use refusal::Cause;
 use refusal::Refusal;
 
 /// How often a node has `child` for an operand.
-fn times_in(node: Node, child: usize) -> usize
+pub fn times_in(node: Node, child: usize) -> usize
     ensures is { λ r. ⌜ r ≡ times child (children node) ⌝ }
     ensures few { λ r. ⌜ r ≤ 2 ⌝ }
 {

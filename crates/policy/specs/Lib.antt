@@ -4,3 +4,4 @@ pub mod Wait
 pub mod Links
 pub mod Verdict
 pub mod Checked
+pub mod Examples

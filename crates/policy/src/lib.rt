@@ -10,4 +10,5 @@ pub use checked::Policy;
 pub use checking::RefusedTable;
 pub use checking::check;
 pub use checking::check_stands;
+pub use modes::examples_stand;
 pub use modes::walk_stands;

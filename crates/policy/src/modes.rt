@@ -9,6 +9,7 @@ ghost use Rattle.table.specs.Sets.{members, none, _∪_, _⊆_};
 ghost use Rattle.table.specs.Formula.{Formula, formulas, formulaAt, formulaOf, arguments};
 ghost use Rattle.table.specs.Form.{notBelow, nodeAt};
 ghost use Rattle.policy.specs.Modes.{givenOf, needed, sameOutside, bindsAll, startOf, searching, walk, walkSides, ifOnly, overPast, cached, WalkTells};
+ghost use Rattle.policy.specs.Examples.{ExamplesHold};
 ghost use Rattle.policy.specs.Outlined.{Outlined};
 use table::Declaration;
 use table::FreeSets;
@@ -185,5 +186,11 @@ impl Outline<'_> {
 /// The theorem that the walk fails exactly if the rules of modes do not hold.
 pub fn walk_stands()
     ensures { λ _. ⌜ WalkTells ⌝ }
+{
+}
+
+/// The theorem that the worked examples of modes, caching and waits come out as they should.
+pub fn examples_stand()
+    ensures { λ _. ⌜ ExamplesHold ⌝ }
 {
 }

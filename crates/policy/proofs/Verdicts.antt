@@ -14,7 +14,7 @@ use Rattle.std.specs.declared.result.Result.the-variants.{Ok, Err}
 use Rattle.refusal.specs.declared.Cause.the-variants.{NotSearchable}
 use Rattle.refusal.specs.declared.Refusal.{Refusal}
 use Rattle.table.specs.declared.node.Node.{Node}
-use Rattle.table.specs.Sets.{none}
+use Rattle.sets.specs.Sets.{none}
 use Rattle.table.specs.Formula.{formulaAt, rootOf}
 use Rattle.table.specs.Form.{Declarations, first, formQuestions}
 use Rattle.table.specs.Formed.{Formed}

@@ -7,10 +7,10 @@ use lib.ListN.{length, getD, set}
 use Rattle.std.specs.Results.{isOk}
 use Rattle.std.specs.declared.result.Result.{Result}
 use Rattle.std.specs.declared.result.Result.the-variants.{Ok, Err}
-use Rattle.table.specs.Sets.{NumberSet, none, _∪_, _⊆_}
+use Rattle.sets.specs.Sets.{NumberSet, none, _∪_, _⊆_}
 use Rattle.table.specs.Formula.{Formula, verum, falsum, atom, and, or, exists, forall, prev, once, hist, next, event, always, since, until, free, formulaOf, formulas, formulaAt}
 use Rattle.table.specs.declared.node.Node.{Node}
-use Rattle.table.specs.declared.small_set.SmallSet.{SmallSet}
+use Rattle.sets.specs.declared.SmallSet.{SmallSet}
 use Rattle.table.proofs.Unrolled.{unrolled}
 use Rattle.policy.specs.Outlined.{Outlined}
 use Rattle.table.specs.Form.{Declarations, nodeAt}

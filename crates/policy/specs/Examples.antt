@@ -8,7 +8,7 @@ use Rattle.std.specs.shelf.Lists.{All}
 use Rattle.std.specs.declared.option.Option.the-variants.{Some, None}
 use Rattle.table.specs.declared.node.Interval.{Interval}
 use Rattle.table.specs.declared.node.Term.the-variants.{Variable}
-use Rattle.table.specs.Sets.{none, single}
+use Rattle.sets.specs.Sets.{none, single}
 use Rattle.table.specs.Formula.{Formula, verum, atom, or, once, event}
 use Rattle.table.specs.Form.{Declarations}
 use Rattle.policy.specs.Modes.{searchable, cached}

@@ -11,7 +11,7 @@ use Rattle.std.specs.declared.result.Result.{Result}
 use Rattle.std.specs.declared.result.Result.the-variants.{Ok, Err}
 use Rattle.table.specs.declared.node.Declaration.{Declaration}
 use Rattle.table.specs.declared.node.Term.{Term}
-use Rattle.table.specs.Sets.{NumberSet, members, none, _∪_, _∖_, _⊆_}
+use Rattle.sets.specs.Sets.{NumberSet, members, none, _∪_, _∖_, _⊆_}
 use Rattle.table.specs.Formula.{Formula, verum, falsum, atom, and, or, exists, forall, prev, once, hist, next, event, always, since, until, free, variablesAt}
 use Rattle.table.specs.Form.{Declarations}
 use Rattle.policy.specs.declared.modes.Mode.{Mode}

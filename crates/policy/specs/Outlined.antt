@@ -5,7 +5,7 @@ use mathlib.Core.List.{List}
 use Prim.Native.Nat.{ℕ, _<_, _≤_}
 use lib.ListN.{length}
 use Rattle.table.specs.declared.node.Node.{Node}
-use Rattle.table.specs.declared.small_set.SmallSet.{SmallSet}
+use Rattle.sets.specs.declared.SmallSet.{SmallSet}
 use Rattle.table.specs.Formula.{formulas, FreeUpTo}
 use Rattle.table.specs.Form.{notBelow, nodeAt}
 

@@ -12,8 +12,8 @@ use Rattle.std.specs.declared.result.Result.the-variants.{Ok, Err}
 use Rattle.refusal.specs.declared.Cause.the-variants.{NotSearchable}
 use Rattle.refusal.specs.declared.Refusal.{Refusal}
 use Rattle.table.specs.declared.node.Node.{Node}
-use Rattle.table.specs.declared.small_set.SmallSet.{SmallSet}
-use Rattle.table.specs.Sets.{none, members}
+use Rattle.sets.specs.declared.SmallSet.{SmallSet}
+use Rattle.sets.specs.Sets.{none, members}
 use Rattle.table.specs.Formula.{formulaAt, rootOf, free}
 use Rattle.table.specs.Form.{Declarations, first, formQuestions}
 use Rattle.table.specs.Formed.{Formed}

@@ -5,7 +5,7 @@ ghost use lib.ListN.{length};
 ghost use Rattle.std.specs.Of.Vec.{vec-items};
 ghost use Rattle.std.specs.Orderings.{Decides};
 ghost use Rattle.std.specs.Results.{isOk};
-ghost use Rattle.table.specs.Sets.{none};
+ghost use Rattle.sets.specs.Sets.{none};
 ghost use Rattle.table.specs.Formula.{formulas, formulaAt, rootOf, FreeUpTo};
 ghost use Prim.Native.Nat.{_<_};
 ghost use Rattle.policy.specs.Modes.{walk};
@@ -21,7 +21,7 @@ use crate::waits::waits_of;
 use refusal::Cause;
 use refusal::Refusal;
 use table::FreeSets;
-use table::SmallSet;
+use sets::SmallSet;
 use table::Table;
 
 /// A refused table, with the reason; the table is as it was handed over.

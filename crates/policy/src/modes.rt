@@ -5,7 +5,7 @@ ghost use mathlib.Core.List.{List};
 ghost use Prim.Native.Nat.{ℕ, _<_, _≤_};
 ghost use lib.ListN.{length, getD};
 ghost use Rattle.std.specs.declared.option.Option.the-variants.{None};
-ghost use Rattle.table.specs.Sets.{members, none, _∪_, _⊆_};
+ghost use Rattle.sets.specs.Sets.{members, none, _∪_, _⊆_};
 ghost use Rattle.table.specs.Formula.{Formula, formulas, formulaAt, formulaOf, arguments};
 ghost use Rattle.table.specs.Form.{notBelow, nodeAt};
 ghost use Rattle.policy.specs.Modes.{givenOf, needed, sameOutside, bindsAll, startOf, searching, walk, walkSides, ifOnly, overPast, cached, WalkTells};
@@ -14,7 +14,7 @@ ghost use Rattle.policy.specs.Outlined.{Outlined};
 use table::Declaration;
 use table::FreeSets;
 use table::Node;
-use table::SmallSet;
+use sets::SmallSet;
 use table::Terms;
 use table::declaration_of;
 

@@ -4,7 +4,7 @@ ghost use mathlib.Core.Bool.{Bool, cond};
 ghost use lib.Dec.{ltb};
 ghost use lib.ListN.{length, getD};
 ghost use Rattle.std.specs.declared.option.Option.the-variants.{Some, None};
-ghost use Rattle.table.specs.Sets.{members};
+ghost use Rattle.sets.specs.Sets.{members};
 ghost use Rattle.table.specs.Formula.{free, formulaAt, rootOf};
 ghost use Rattle.table.specs.Form.{nodeAt};
 ghost use Rattle.policy.specs.Modes.{cached};
@@ -15,7 +15,7 @@ ghost use Rattle.policy.specs.Checked.{nodesOf, declarationsOf};
 use crate::checked::Policy;
 use table::Declaration;
 use table::Node;
-use table::SmallSet;
+use sets::SmallSet;
 use table::declaration_of;
 
 impl Policy {

@@ -10,9 +10,9 @@ use Rattle.refusal.specs.declared.Refusal.{Refusal}
 use Rattle.refusal.specs.declared.Cause.the-variants.{BoundBefore}
 use Rattle.table.specs.declared.node.Node.{Node}
 use Rattle.table.specs.declared.node.Node.the-variants.{True}
-use Rattle.table.specs.Sets.{NumberSet, none, _∪_, meets}
+use Rattle.sets.specs.Sets.{NumberSet, none, _∪_, meets}
 use Rattle.table.specs.Form.{bindings, boundBy, boundBefore, nodeAt, first, ofBindings}
-use Rattle.table.proofs.Algebra.{union-assoc, union-none, none-union}
+use Rattle.sets.proofs.Unions.{union-assoc, union-none, none-union}
 
 bound-append : (xs ys : List Node) → boundBy (xs ++ ys) ≡ boundBy xs ∪ boundBy ys
 bound-append [] ys = sym (none-union (boundBy ys))

@@ -1,5 +1,4 @@
-pub mod Masks
-pub mod Algebra
+pub mod Gather
 pub mod Loops
 pub mod Bound
 pub mod Unrolled

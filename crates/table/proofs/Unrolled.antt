@@ -9,10 +9,10 @@ use lib.ListN.{length, getD, set, length-append}
 use Rattle.std.specs.shelf.Lists.{All}
 use Rattle.std.proofs.shelf.Lists.{getD-append-left, getD-at, getD-past}
 use Rattle.std.proofs.shelf.Tests.{leb-false, or-parts}
-use Rattle.table.specs.declared.small_set.SmallSet.{SmallSet}
+use Rattle.sets.specs.declared.SmallSet.{SmallSet}
 use Rattle.table.specs.declared.node.Node.{Node}
 use Rattle.table.specs.declared.node.Node.the-variants.{True, False, Atom, And, Or, Exists, Forall, Prev, Once, Hist, Next, Event, Always, Since, Until}
-use Rattle.table.specs.Sets.{NumberSet, members}
+use Rattle.sets.specs.Sets.{NumberSet, members}
 use Rattle.table.specs.Formula.{Formula, verum, falsum, atom, and, or, exists, forall, prev, once, hist, next, event, always, since, until, free, formulaOf, onward, formulas, formulaAt, FreeUpTo}
 use Rattle.table.proofs.Loops.{fill-more}
 use Rattle.table.specs.Form.{some, children, notBelow, nodeAt}

@@ -19,7 +19,7 @@ use Rattle.table.specs.declared.node.Term.{Term}
 use Rattle.table.specs.declared.node.Term.the-variants.{Variable, Constant}
 use Rattle.table.specs.declared.node.Terms.{Terms}
 use Rattle.table.specs.Formula.{free, arguments, formulaAt, rootOf}
-use Rattle.table.specs.Sets.{NumberSet, members, none, _∪_, below, empty, _⊆_, meets}
+use Rattle.sets.specs.Sets.{NumberSet, members, none, _∪_, below, empty, _⊆_, meets}
 
 -- what is declared of each predicate, in the order of their numbers
 abbrev pub Declarations : Type 0

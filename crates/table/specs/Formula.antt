@@ -1,5 +1,5 @@
 -- Formulas of metric first-order temporal logic, and the formula that each node of a table stands for.
-use mathlib.Core.Bool.{Bool, cond, _&&_}
+use mathlib.Core.Bool.{Bool, cond}
 use mathlib.Core.List.{List, [], _∷_, _++_}
 use mathlib.Core.Path.{_≡_}
 use Prim.Native.Nat.{ℕ, _+_, _-_, _<_}
@@ -11,8 +11,8 @@ use Rattle.table.specs.declared.node.Node.the-variants.{True, False, Atom, And
 use Rattle.table.specs.declared.node.Term.{Term}
 use Rattle.table.specs.declared.node.Term.the-variants.{Variable, Constant}
 use Rattle.table.specs.declared.node.Terms.{Terms}
-use Rattle.table.specs.declared.small_set.SmallSet.{SmallSet}
-use Rattle.table.specs.Sets.{NumberSet, members, none, _∪_, _∖_, single, below}
+use Rattle.sets.specs.declared.SmallSet.{SmallSet}
+use Rattle.sets.specs.Sets.{NumberSet, members, none, _∪_, _∖_, single, below}
 
 -- A formula. The first number of each part is that of its node, by which refusals and summaries name the part;
 -- no part's meaning depends on it. A quantifier binds a set of variables, which may be empty.
@@ -35,7 +35,7 @@ pub data Formula : Type 0 where
 
 -- the variable of a term, if it is one and is wanted; variables are numbered from 0 to 7
 abbrev pub variableIn : Bool → Term → NumberSet
-variableIn wanted (Variable v) = cond (wanted && ltb v 8) (single v) none
+variableIn wanted (Variable v) = cond wanted (cond (ltb v 8) (single v) none) none
 variableIn wanted (Constant c) = none
 
 -- the variables among terms that stand at the places of a set, where the first term stands at the place a

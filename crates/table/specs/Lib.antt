@@ -1,4 +1,3 @@
-pub mod Sets
 pub mod Formula
 pub mod Form
 pub mod Formed

@@ -4,11 +4,11 @@ ghost use mathlib.Core.Bool.{Bool, true, false};
 ghost use mathlib.Core.List.{List};
 ghost use Prim.Native.Nat.{ℕ, _<_, _≤_};
 ghost use lib.ListN.{length, getD};
-ghost use Rattle.table.specs.Sets.{members};
+ghost use Rattle.sets.specs.Sets.{members};
 ghost use Rattle.table.specs.Formula.{Formula, formulaOf, formulas, free, FreeUpTo};
 ghost use Rattle.table.specs.Form.{notBelow, nodeAt};
 use crate::node::Node;
-use crate::small_set::SmallSet;
+use sets::SmallSet;
 
 /// The free variables of the nodes of a table, which has at most 32, by number.
 pub type FreeSets = [SmallSet; 32];

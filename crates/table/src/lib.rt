@@ -3,7 +3,6 @@ mod form;
 mod free;
 mod node;
 mod raw_table;
-mod small_set;
 mod terms;
 
 pub use form::declaration_of;
@@ -17,4 +16,4 @@ pub use node::Term;
 pub use node::Terms;
 pub use node::Value;
 pub use raw_table::Table;
-pub use small_set::SmallSet;
+pub use sets::SmallSet;

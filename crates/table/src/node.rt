@@ -1,5 +1,5 @@
 //! What a table is made of, as a caller hands it over: nothing here is checked yet.
-use crate::small_set::SmallSet;
+use sets::SmallSet;
 
 /// A value of the domain: a runner, a run, a track, by number.
 pub type Value = u32;

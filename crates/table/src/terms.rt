@@ -3,12 +3,12 @@ ghost use mathlib.Core.Path.{_≡_};
 ghost use mathlib.Core.Bool.{Bool};
 ghost use Prim.Native.Nat.{_≤_};
 ghost use lib.ListN.{length, take};
-ghost use Rattle.table.specs.Sets.{NumberSet, members, _∪_};
+ghost use Rattle.sets.specs.Sets.{NumberSet, members, _∪_};
 ghost use Rattle.table.specs.Formula.{arguments, variableIn, variablesAt};
 ghost use Rattle.table.specs.Form.{some, termOver};
 use crate::node::Term;
 use crate::node::Terms;
-use crate::small_set::SmallSet;
+use sets::SmallSet;
 
 impl Terms {
     /// The variables at the arguments that stand at the given places.
@@ -33,11 +33,7 @@ fn variable_in(term: Term, wanted: bool) -> SmallSet
 {
     match term {
         Term::Variable(variable) => {
-            if wanted && variable < 8 {
-                SmallSet::single(variable)
-            } else {
-                SmallSet::none()
-            }
+            if wanted { SmallSet::single(variable) } else { SmallSet::none() }
         }
         Term::Constant(_) => SmallSet::none(),
     }

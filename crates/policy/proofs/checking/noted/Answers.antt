@@ -2,7 +2,7 @@ use mathlib.Core.List.{List}
 use mathlib.Core.Path.{ap, subst}
 use Rattle.std.specs.Of.Vec.{vec-items}
 use Rattle.std.specs.Options.{isSome}
-use Rattle.table.specs.Sets.{NumberSet}
+use Rattle.sets.specs.Sets.{NumberSet}
 use Rattle.table.specs.declared.node.Node.{Node}
 use Rattle.policy.specs.Verdict.{WaitsNoted, CachedNoted, ParentsNoted}
 use Rattle.policy.proofs.Verdicts.{unrefused}

@@ -1,5 +1,5 @@
 use mathlib.Core.Path.{refl}
-use Rattle.table.specs.Sets.{members, none, _∪_, _∖_, single, below, empty}
+use Rattle.sets.specs.Sets.{members, none, _∪_, _∖_, single, below, empty}
 use Rattle.policy.proofs.modes.examples_stand.Needs as need
 
 pub returns : need.returns

@@ -1,6 +1,6 @@
 use mathlib.Core.Path.{_≡_}
 use lib.ListN.{drop, take}
-use Rattle.table.specs.Sets.{members}
+use Rattle.sets.specs.Sets.{members}
 use Rattle.table.specs.Form.{first, inTurn, ofBindings, boundBy}
 use Rattle.table.proofs.form.check_bindings.Given as given
 

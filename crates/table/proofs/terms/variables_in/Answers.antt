@@ -3,8 +3,9 @@ use mathlib.Core.Path.{ap, _∙_}
 use lib.ListN.{getD}
 use Rattle.table.specs.declared.node.Term.the-variants.{Variable}
 use Rattle.table.specs.Formula.{variableIn, variablesAt}
-use Rattle.table.specs.Sets.{NumberSet, members, _∪_}
-use Rattle.table.proofs.Algebra.{none-union, gather-more, gather-all}
+use Rattle.sets.specs.Sets.{NumberSet, members, _∪_}
+use Rattle.sets.proofs.Unions.{none-union}
+use Rattle.table.proofs.Gather.{gather-more, gather-all}
 use Rattle.table.proofs.terms.variables_in.Needs as need
 
 pub loop-place-holds : need.loop-place-holds

@@ -1,6 +1,6 @@
 use mathlib.Core.Path.{_≡_}
 use lib.ListN.{drop}
-use Rattle.table.specs.Sets.{members, _∪_}
+use Rattle.sets.specs.Sets.{members, _∪_}
 use Rattle.table.specs.Formula.{variablesAt}
 use Rattle.table.proofs.terms.variables_in.Given as given
 

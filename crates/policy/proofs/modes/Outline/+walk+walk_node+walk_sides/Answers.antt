@@ -1,6 +1,6 @@
 use mathlib.Core.Path.{sym, ap, _∙_}
 use Rattle.table.specs.Formula.{Formula}
-use Rattle.table.specs.Sets.{members}
+use Rattle.sets.specs.Sets.{members}
 use Rattle.table.proofs.Unrolled.{unrolled}
 use Rattle.policy.specs.Modes.{walk}
 use Rattle.policy.proofs.modes.Outline.+walk+walk_node+walk_sides.Needs as need

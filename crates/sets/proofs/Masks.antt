@@ -10,8 +10,8 @@ use lib.Pow.{pow-mono}
 use lib.Bits.{bitAnd, bitOr, or-step, and-step, or-shr, and-shr}
 use Rattle.std.proofs.shelf.Tests.{eqb-true, ne-eqb, le-ltb, cases-lt}
 use Rattle.std.proofs.shelf.Ways.{tells, eqb-tells}
-use Rattle.table.specs.declared.small_set.SmallSet.{SmallSet}
-use Rattle.table.specs.Sets.{NumberSet, members, none, _∪_, _∩_, _∖_, single, below, empty}
+use Rattle.sets.specs.declared.SmallSet.{SmallSet}
+use Rattle.sets.specs.Sets.{NumberSet, members, none, _∪_, _∩_, _∖_, single, below, empty}
 
 abbrev bit : ℕ → ℕ → ℕ
 bit m v = m / 2 ^ v % 2
@@ -123,12 +123,19 @@ one n h =
       (λ v l. from-alike _ _ (all-two 8 8 (λ n v. alike (has (1 * 2 ^ n % 256) v) (eqb n v)) refl n v h l))
       (λ v g. ne-eqb n v (λ e. omega arith)))
 
-pub first : (n : ℕ) → n ≤ 3 → members (set (1 * 2 ^ n % 256 - 1)) ≡ below n
+pub first : (n : ℕ) → n < 8 → members (set (1 * 2 ^ n % 256 - 1)) ≡ below n
 unfolding members below
 first n h =
     same (by-places (1 * 2 ^ n % 256 - 1) (λ v. ltb v n) (omega arith)
-      (λ v l. from-alike _ _ (all-two 4 8 (λ n v. alike (has (1 * 2 ^ n % 256 - 1) v) (ltb v n)) refl n v (omega arith) l))
+      (λ v l. from-alike _ _ (all-two 8 8 (λ n v. alike (has (1 * 2 ^ n % 256 - 1) v) (ltb v n)) refl n v h l))
       (λ v g. le-ltb v n (omega arith)))
+
+pub full : members (set 255) ≡ below 8
+unfolding members below
+full =
+    same (by-places 255 (λ v. ltb v 8) (omega arith)
+      (λ v l. from-alike _ _ (all-at 8 (λ v. alike (has 255 v) (ltb v 8)) refl v l))
+      (λ v g. le-ltb v 8 g))
 
 pub nothing : (m : ℕ) → m < 256 → eqb m 0 ≡ empty (members (set m))
 unfolding members empty

@@ -1,8 +1,8 @@
 use native.Mathlib.Omega.{arith}
 use mathlib.Core.Path.{sym, _∙_}
 use Rattle.std.proofs.shelf.Tests.{le-ltb}
-use Rattle.table.proofs.Masks as masks
-use Rattle.table.proofs.small_set.SmallSet.contains.Needs as need
+use Rattle.sets.proofs.Masks as masks
+use Rattle.sets.proofs.SmallSet.contains.Needs as need
 
 pub returns-then-number-lt8 : need.returns-then-number-lt8
 returns-then-number-lt8 c = masks.within (c .args .self .mask) (c .args .number)

@@ -1,9 +1,9 @@
 //! Sets of the numbers 0 to 7: the variables of a quantifier, the arguments that must be given.
 ghost use mathlib.Core.Path.{_≡_};
-ghost use mathlib.Core.Bool.{Bool, not};
-ghost use Prim.Native.Nat.{ℕ, _<_, _≤_};
+ghost use mathlib.Core.Bool.{Bool, cond};
+ghost use Prim.Native.Nat.{min};
 ghost use lib.Dec.{ltb};
-ghost use Rattle.table.specs.Sets.{members, none, _∪_, _∩_, _∖_, single, below, empty, _⊆_, meets};
+ghost use Rattle.sets.specs.Sets.{members, none, _∪_, _∩_, _∖_, single, below, empty, _⊆_, meets};
 
 /// A set of numbers from 0 to 7.
 #[derive(Clone, Copy)]
@@ -71,19 +71,17 @@ impl SmallSet {
         !self.intersection(other).is_empty()
     }
 
-    /// The set of this number alone.
-    pub(crate) fn single(number: u8) -> SmallSet
-        requires { ⌜ number < 8 ⌝ }
-        ensures { λ r. ⌜ members r ≡ single number ⌝ }
+    /// The set of this number alone; empty for a number over 7.
+    pub fn single(number: u8) -> SmallSet
+        ensures { λ r. ⌜ members r ≡ cond (ltb number 8) (single number) none ⌝ }
     {
-        SmallSet { mask: 1 << number }
+        if number < 8 { SmallSet { mask: 1 << number } } else { SmallSet { mask: 0 } }
     }
 
-    /// The numbers below `end`.
-    pub(crate) fn below(end: u8) -> SmallSet
-        requires { ⌜ end ≤ 3 ⌝ }
-        ensures { λ r. ⌜ members r ≡ below end ⌝ }
+    /// The numbers below `end`, up to 7.
+    pub fn below(end: u8) -> SmallSet
+        ensures { λ r. ⌜ members r ≡ below (min end 8) ⌝ }
     {
-        SmallSet { mask: (1 << end) - 1 }
+        if end < 8 { SmallSet { mask: (1 << end) - 1 } } else { SmallSet { mask: 255 } }
     }
 }

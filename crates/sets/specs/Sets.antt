@@ -2,7 +2,7 @@
 use mathlib.Core.Bool.{Bool, true, false, _&&_, _||_, not}
 use Prim.Native.Nat.{ℕ, _/_, _%_, _^_}
 use lib.Dec.{eqb, ltb}
-use Rattle.table.specs.declared.small_set.SmallSet.{SmallSet}
+use Rattle.sets.specs.declared.SmallSet.{SmallSet}
 
 infixl 40 _∪_ _∩_ _∖_
 infixl 20 _⊆_

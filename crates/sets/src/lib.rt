@@ -75,7 +75,7 @@ impl SmallSet {
     pub fn single(number: u8) -> SmallSet
         ensures { λ r. ⌜ members r ≡ cond (ltb number 8) (single number) none ⌝ }
     {
-        if number < 8 { SmallSet { mask: 1 << number } } else { SmallSet { mask: 0 } }
+        if number < 8 { SmallSet { mask: 1 << number } } else { SmallSet::none() }
     }
 
     /// The numbers below `end`, up to 7.

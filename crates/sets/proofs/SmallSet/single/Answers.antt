@@ -8,4 +8,4 @@ returns-then-number-lt8 c =
     masks.one (c .args .number) (c .if-number-lt8 .taken) ∙ sym (cond-true _ _ _ (lt-ltb (c .args .number) 8 (c .if-number-lt8 .taken)))
 
 pub returns-else-number-lt8 : need.returns-else-number-lt8
-returns-else-number-lt8 c = masks.of-none ∙ sym (cond-false _ _ _ (le-ltb (c .args .number) 8 (c .if-number-lt8 .left)))
+returns-else-number-lt8 c = c .none .ensures ∙ sym (cond-false _ _ _ (le-ltb (c .args .number) 8 (c .if-number-lt8 .left)))

@@ -53,9 +53,10 @@ uncounted k (x ∷ xs) e =
 
 distinct : (xs : List ℕ) → All (λ c. times c xs ≤ 1) xs → Distinct xs
 distinct [] h = tt
-distinct (x ∷ xs) h =
-    (uncounted x xs (omega (arith, h .0, ap (λ (b : Bool). cond {A = ℕ} b 1 0) (eq-eqb x x refl))),
-     distinct xs (more (λ c. times c (x ∷ xs) ≤ 1) (λ c. times c xs ≤ 1) xs (λ c l. omega arith) (h .1)))
+distinct (x ∷ xs) h = (
+  uncounted x xs (omega (arith, h .0, ap (λ (b : Bool). cond {A = ℕ} b 1 0) (eq-eqb x x refl))),
+  distinct xs (more (λ c. times c (x ∷ xs) ≤ 1) (λ c. times c xs ≤ 1) xs (λ c l. omega arith) (h .1)),
+)
 
 none-below : (k : ℕ) (xs : List ℕ) → All (λ c. c < k) xs → times k xs ≡ 0
 none-below k [] h = refl
@@ -86,8 +87,9 @@ no-parent i k (x ∷ ns) h =
 -- a node below the root is counted once
 once-child : (ns : List Node) (k : ℕ) → suc k < length ns → notOneParent ns k ≡ false → parentCount ns k ≡ 1
 once-child ns k h e = elim (and-cases (ltb (k + 1) (length ns)) (not (eqb (parentCount ns k) 1)) e) [
-    inl n ↦ absurd (both-ways (ltb (k + 1) (length ns)) n (lt-ltb (k + 1) (length ns) (omega arith)))
-  | inr n ↦ eqb-true (parentCount ns k) 1 (not-false (eqb (parentCount ns k) 1) n) ]
+  | inl n ↦ absurd (both-ways (ltb (k + 1) (length ns)) n (lt-ltb (k + 1) (length ns) (omega arith)))
+  | inr n ↦ eqb-true (parentCount ns k) 1 (not-false (eqb (parentCount ns k) 1) n)
+]
 
 with-count : (n : ℕ) (all xs : List ℕ) → All (λ c. c < n) xs → All (λ c. 0 < times c all) xs → All (λ c. (c < n) × (0 < times c all)) xs
 with-count n all [] p q = tt
@@ -100,7 +102,7 @@ parent-past D ns k f h =
 pub linked : (D : Declarations) (ns : List Node) → Formed D ns → Linked ns (parentFrom 0 ns)
 linked D ns f =
     let under : (n : ℕ) → n < length ns → All (λ c. (c < n) × (0 < times c (children (nodeAt ns n)))) (children (nodeAt ns n)) =
-          λ n l. with-count n (children (nodeAt ns n)) (children (nodeAt ns n)) (children-below n (nodeAt ns n) (f .descends n l)) (counted (children (nodeAt ns n))) in
+    λ n l. with-count n (children (nodeAt ns n)) (children (nodeAt ns n)) (children-below n (nodeAt ns n) (f .descends n l)) (counted (children (nodeAt ns n))) in
     let alone : (n c : ℕ) → n < length ns → c < n → parentCount ns c ≡ 1 = λ n c l d. once-child ns c (omega arith) (f .one-parent c (omega arith)) in
     record {
       parents = λ n l. more _ _ _ (λ c u. found 0 c n ns l (u .1) (alone n c l (u .0)) ∙ omega arith) (under n l);

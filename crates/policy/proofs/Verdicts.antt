@@ -12,6 +12,7 @@ use Rattle.std.specs.declared.option.Option.the-variants.{Some, None}
 use Rattle.std.specs.declared.result.Result.{Result}
 use Rattle.std.specs.declared.result.Result.the-variants.{Ok, Err}
 use Rattle.refusal.specs.declared.Cause.the-variants.{NotSearchable}
+use Rattle.refusal.specs.Causes.{refusalAt}
 use Rattle.refusal.specs.declared.Refusal.{Refusal}
 use Rattle.table.specs.declared.node.Node.{Node}
 use Rattle.sets.specs.Sets.{none}
@@ -65,7 +66,7 @@ module _ (D : Declarations) (ns : List Node) where
   pub form-refusal : (x : Refusal) → Some x ≡ first (formQuestions D ns) → Some x ≡ refusalOf D ns
   form-refusal x e = ap (λ (o : Option Refusal). orElse o (ofWalk rootWalk)) e
 
-  pub mode-refusal : (n : ℕ) → None ≡ first (formQuestions D ns) → Err n ≡ rootWalk → Some (record { cause = NotSearchable; place = n }) ≡ refusalOf D ns
+  pub mode-refusal : (n : ℕ) → None ≡ first (formQuestions D ns) → Err n ≡ rootWalk → Some (refusalAt NotSearchable n) ≡ refusalOf D ns
   mode-refusal n e w =
       ap ofWalk w ∙ ap (λ (o : Option Refusal). orElse o (ofWalk rootWalk)) e
 

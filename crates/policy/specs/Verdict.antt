@@ -9,6 +9,7 @@ use Rattle.std.specs.declared.option.Option.{Option}
 use Rattle.std.specs.declared.option.Option.the-variants.{Some, None}
 use Rattle.std.specs.declared.result.Result.{Result}
 use Rattle.std.specs.declared.result.Result.the-variants.{Ok, Err}
+use Rattle.refusal.specs.Causes.{refusalAt}
 use Rattle.refusal.specs.declared.Cause.the-variants.{NotSearchable}
 use Rattle.refusal.specs.declared.Refusal.{Refusal}
 use Rattle.table.specs.declared.node.Node.{Node}
@@ -25,7 +26,7 @@ use Rattle.policy.specs.Links.{parentFrom}
 -- the refusal of a walk: not searchable, at the node where it first fails
 abbrev pub ofWalk : Result (Unit {0}) ℕ → Option Refusal
 ofWalk (Ok _) = None
-ofWalk (Err n) = Some (record { cause = NotSearchable; place = n })
+ofWalk (Err n) = Some (refusalAt NotSearchable n)
 
 -- a refusal of the form comes before one of the modes
 abbrev pub orElse : Option Refusal → Option Refusal → Option Refusal

@@ -20,8 +20,8 @@ use crate::modes::Outline;
 use crate::waits::waits_of;
 use refusal::Cause;
 use refusal::Refusal;
-use table::FreeSets;
 use sets::SmallSet;
+use table::FreeSets;
 use table::Table;
 
 /// A refused table, with the reason; the table is as it was handed over.
@@ -43,7 +43,10 @@ pub fn check(table: Table) -> Result<Policy, RefusedTable>
     };
     match walk_root(&table, &free) {
         Ok(()) => Ok(noted(table, free)),
-        Err(place) => Err(RefusedTable { refusal: Refusal { cause: Cause::NotSearchable, place }, table }),
+        Err(place) => Err(RefusedTable {
+            refusal: Cause::NotSearchable.at(place),
+            table,
+        }),
     }
 }
 
@@ -53,7 +56,11 @@ fn walk_root<'a>(table: &'a Table, free: &'a FreeSets) -> Result<(), usize>
     ensures { λ r. ⌜ r ≡ walk Search (now (table .entry) .declarations) (formulaAt (vec-items (now (table .entry) .nodes)) (rootOf (vec-items (now (table .entry) .nodes)))) none ⌝ }
 {
     let nodes = table.nodes.as_slice();
-    let outline = Outline { nodes, declarations: &table.declarations, free };
+    let outline = Outline {
+        nodes,
+        declarations: &table.declarations,
+        free,
+    };
     outline.walk(Mode::Search, nodes.len() - 1, SmallSet::none())
 }
 
@@ -66,12 +73,21 @@ fn noted(table: Table, free: FreeSets) -> Policy
     let nodes = table.nodes.as_slice();
     let waits = waits_of(nodes);
     let parents = parents_of(nodes);
-    let cached = Outline { nodes, declarations: &table.declarations, free: &free }.cached();
-    Policy { table, free, waits, cached, parents }
+    let cached = Outline {
+        nodes,
+        declarations: &table.declarations,
+        free: &free,
+    }.cached();
+    Policy {
+        table,
+        free,
+        waits,
+        cached,
+        parents,
+    }
 }
 
 /// The theorem that a table is accepted exactly if it keeps every form rule and its root is searchable from nothing.
 pub fn check_stands()
     ensures { λ _. ⌜ RefusedUnlessAccepted ⌝ }
-{
-}
+{}

@@ -11,10 +11,10 @@ ghost use Rattle.table.specs.Form.{notBelow, nodeAt};
 ghost use Rattle.policy.specs.Modes.{givenOf, needed, sameOutside, bindsAll, startOf, searching, walk, walkSides, ifOnly, overPast, cached, WalkTells};
 ghost use Rattle.policy.specs.Examples.{ExamplesHold};
 ghost use Rattle.policy.specs.Outlined.{Outlined};
+use sets::SmallSet;
 use table::Declaration;
 use table::FreeSets;
 use table::Node;
-use sets::SmallSet;
 use table::Terms;
 use table::declaration_of;
 
@@ -106,7 +106,10 @@ impl Outline<'_> {
     {
         match node {
             Node::True | Node::False => Ok(()),
-            Node::Atom { predicate, terms } => if_only(self.needed(predicate, terms).within(known), n),
+            Node::Atom { predicate, terms } => if_only(
+                self.needed(predicate, terms).within(known),
+                n,
+            ),
             Node::And { left, right } => {
                 self.walk(mode, left, known)?;
                 self.walk(mode, right, known.union(self.free[left]))
@@ -120,12 +123,23 @@ impl Outline<'_> {
                 self.walk(mode, body, known)?;
                 if_only(variables.within(self.free[body]), n)
             }
-            Node::Forall { variables, left, right } => {
+            Node::Forall {
+                variables,
+                left,
+                right,
+            } => {
                 self.walk(mode, left, known)?;
                 self.walk(mode, right, known.union(variables))?;
-                if_only(binds_all(known, variables, self.free[left], self.free[right]), n)
+                if_only(
+                    binds_all(known, variables, self.free[left], self.free[right]),
+                    n,
+                )
             }
-            Node::Prev { body, .. } | Node::Once { body, .. } => self.walk(mode, body, start_of(mode, known)),
+            Node::Prev { body, .. } | Node::Once { body, .. } => self.walk(
+                mode,
+                body,
+                start_of(mode, known),
+            ),
             Node::Next { body, .. } | Node::Event { body, .. } => {
                 if_only(is_search(mode), n)?;
                 self.walk(mode, body, known)
@@ -135,7 +149,13 @@ impl Outline<'_> {
                 self.walk(mode, body, known)?;
                 if_only(self.free[body].within(known), n)
             }
-            Node::Since { left, right, .. } => self.walk_sides(mode, n, left, right, start_of(mode, known)),
+            Node::Since { left, right, .. } => self.walk_sides(
+                mode,
+                n,
+                left,
+                right,
+                start_of(mode, known),
+            ),
             Node::Until { left, right, .. } => {
                 if_only(is_search(mode), n)?;
                 self.walk_sides(mode, n, left, right, known)
@@ -144,7 +164,14 @@ impl Outline<'_> {
     }
 
     /// The sides of a since or an until: right first, then left with right's variables known.
-    fn walk_sides(self, mode: Mode, n: usize, left: usize, right: usize, known: SmallSet) -> Result<(), usize>
+    fn walk_sides(
+        self,
+        mode: Mode,
+        n: usize,
+        left: usize,
+        right: usize,
+        known: SmallSet,
+    ) -> Result<(), usize>
         requires { ⌜ n < length (self .nodes .now) ⌝ ∗ ⌜ Outlined (self .nodes .now) (self .free .now) ⌝ ∗ ⌜ left < n ⌝ ∗ ⌜ right < n ⌝ }
         ensures { λ r. ⌜ r ≡ walkSides mode (self .entry .declarations .now) n (formulaAt (self .entry .nodes .now) left) (formulaAt (self .entry .nodes .now) right) (members known) ⌝ }
     {
@@ -186,11 +213,9 @@ impl Outline<'_> {
 /// The theorem that the walk fails exactly if the rules of modes do not hold.
 pub fn walk_stands()
     ensures { λ _. ⌜ WalkTells ⌝ }
-{
-}
+{}
 
 /// The theorem that the worked examples of modes, caching and waits come out as they should.
 pub fn examples_stand()
     ensures { λ _. ⌜ ExamplesHold ⌝ }
-{
-}
+{}

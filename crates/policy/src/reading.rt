@@ -13,9 +13,9 @@ ghost use Rattle.policy.specs.Links.{parentFrom, Linked};
 ghost use Rattle.policy.specs.Verdict.{Accepted};
 ghost use Rattle.policy.specs.Checked.{nodesOf, declarationsOf};
 use crate::checked::Policy;
+use sets::SmallSet;
 use table::Declaration;
 use table::Node;
-use sets::SmallSet;
 use table::declaration_of;
 
 impl Policy {
@@ -29,7 +29,11 @@ impl Policy {
         ensures { λ r. ⌜ r ≡ cond (ltb n (length (nodesOf (now (self .entry))))) (Some (nodeAt (nodesOf (now (self .entry))) n)) None ⌝ }
     {
         let nodes = self.table.nodes.as_slice();
-        if n < nodes.len() { Some(nodes[n]) } else { None }
+        if n < nodes.len() {
+            Some(nodes[n])
+        } else {
+            None
+        }
     }
 
     pub fn declaration(&self, predicate: u8) -> Option<Declaration>
@@ -42,14 +46,22 @@ impl Policy {
     pub fn free(&self, n: usize) -> SmallSet
         ensures { λ r. ⌜ members r ≡ free (formulaAt (nodesOf (now (self .entry))) n) ⌝ }
     {
-        if n < self.node_count() { self.free[n] } else { SmallSet::none() }
+        if n < self.node_count() {
+            self.free[n]
+        } else {
+            SmallSet::none()
+        }
     }
 
     /// The seconds after a position's stamp that a node's truth there may depend on.
     pub fn wait_of(&self, n: usize) -> u64
         ensures { λ r. ⌜ r ≡ wait (formulaAt (nodesOf (now (self .entry))) n) ⌝ }
     {
-        if n < self.node_count() { self.waits[n] } else { 0 }
+        if n < self.node_count() {
+            self.waits[n]
+        } else {
+            0
+        }
     }
 
     /// The wait of the policy, which is that of its root.
@@ -70,13 +82,16 @@ impl Policy {
     pub fn parent(&self, n: usize) -> usize
         ensures { λ r. ⌜ r ≡ parentFrom 0 (nodesOf (now (self .entry))) n ⌝ }
     {
-        if n < self.node_count() { self.parents[n] } else { n }
+        if n < self.node_count() {
+            self.parents[n]
+        } else {
+            n
+        }
     }
 
     /// What holds of every policy: its table is accepted, and its parent links lead from each child to its parent.
     pub fn stands(&self)
         ensures accepted { λ _. ⌜ Accepted (declarationsOf (now (self .entry))) (nodesOf (now (self .entry))) ⌝ }
         ensures linked { λ _. ⌜ Linked (nodesOf (now (self .entry))) (parentFrom 0 (nodesOf (now (self .entry)))) ⌝ }
-    {
-    }
+    {}
 }

@@ -41,7 +41,11 @@ fn wait_of(node: Node, i: usize, waits: &[u64; 32]) -> u64
         Node::Next { interval, body }
         | Node::Event { interval, body }
         | Node::Always { interval, body } => upper_of(interval) + waits[body],
-        Node::Until { interval, left, right } => upper_of(interval) + waits[left].max(waits[right]),
+        Node::Until {
+            interval,
+            left,
+            right,
+        } => upper_of(interval) + waits[left].max(waits[right]),
     }
 }
 

@@ -83,6 +83,10 @@ wordsOf BufferShort = codes "fact buffer full, or shorter than the draft"
 wordsOf NotKnown = codes "predicate not known with this count"
 wordsOf ValueAbsent = codes "needed value absent"
 
+-- the refusal for a cause at a place
+abbrev pub refusalAt : Cause → ℕ → Refusal
+refusalAt c i = record { cause = c; place = i }
+
 -- what a refusal prints: `refused 13 journal at 4 (stamp below the least next stamp)`
 abbrev pub printed : Refusal → List ℕ
 printed r =

@@ -4,7 +4,7 @@ ghost use mathlib.Core.List.{_++_};
 ghost use lib.Chars.{codes};
 ghost use Rattle.std.specs.Written.{decimal};
 ghost use Rattle.std.specs.declared.option.Option.the-variants.{Some};
-ghost use Rattle.refusal.specs.Causes.{numberOf, layerOf, wordsOf, nameOf, printed};
+ghost use Rattle.refusal.specs.Causes.{numberOf, layerOf, wordsOf, nameOf, refusalAt, printed};
 use std::fmt;
 
 /// The part of the monitor that refused.
@@ -56,6 +56,13 @@ impl Layer {
 }
 
 impl Cause {
+    /// The refusal for this cause at a place.
+    pub fn at(self, place: usize) -> Refusal
+        ensures { λ r. ⌜ r ≡ refusalAt self place ⌝ }
+    {
+        Refusal { cause: self, place }
+    }
+
     pub fn number(self) -> u8
         ensures { λ r. ⌜ r ≡ numberOf self ⌝ }
     {
@@ -95,7 +102,8 @@ impl Cause {
             | Cause::BoundBefore
             | Cause::FreeAtRoot => Layer::Table,
             Cause::NotSearchable => Layer::Mode,
-            Cause::UnknownBelow | Cause::TooManyShown | Cause::MonitorFull | Cause::BufferShort => Layer::Monitor,
+            Cause::UnknownBelow | Cause::TooManyShown | Cause::MonitorFull | Cause::BufferShort =>
+                Layer::Monitor,
             Cause::BadFact | Cause::StampTooLow | Cause::NoRoom | Cause::NotShown => Layer::Journal,
             Cause::NotKnown | Cause::ValueAbsent => Layer::Source,
         }
@@ -115,7 +123,8 @@ impl Cause {
             Cause::BoundBefore => "variable bound already by a lower node",
             Cause::FreeAtRoot => "free variable at the root",
             Cause::NotSearchable => "not searchable",
-            Cause::UnknownBelow => "declared predicate unknown below, or a needed argument not declared given",
+            Cause::UnknownBelow =>
+                "declared predicate unknown below, or a needed argument not declared given",
             Cause::TooManyShown => "more than 4096 positions shown",
             Cause::BadFact => "fact with a predicate over 31 or more than 3 arguments",
             Cause::StampTooLow => "stamp below the least next stamp",

@@ -88,10 +88,11 @@ zero-min x y e = omega arith
 
 minus-at : (a b v : ℕ) → a < 256 → b < 256 → has (bitAnd a (255 - b)) v ≡ (has a v && not (has b v))
 minus-at a b v h k = elim (cases-lt v 8) [
-    inl l ↦ ap (λ n. eqb n 1) (bit-and a (255 - b) v) ∙ less (bit a v) (bit (255 - b) v) (bit b v) (omega arith) (omega arith) (flip b v k l)
+  | inl l ↦ ap (λ n. eqb n 1) (bit-and a (255 - b) v) ∙ less (bit a v) (bit (255 - b) v) (bit b v) (omega arith) (omega arith) (flip b v k l)
   | inr g ↦
       let z = past a v h g in
-      ap (λ n. eqb n 1) (bit-and a (255 - b) v ∙ zero-min (bit a v) (bit (255 - b) v) z) ∙ sym (ap (λ n. eqb n 1 && not (has b v)) z) ]
+      ap (λ n. eqb n 1) (bit-and a (255 - b) v ∙ zero-min (bit a v) (bit (255 - b) v) z) ∙ sym (ap (λ n. eqb n 1 && not (has b v)) z)
+]
 
 pub minus : (a b : ℕ) → a < 256 → b < 256 → members (set (bitAnd a (255 - b))) ≡ members (set a) ∖ members (set b)
 unfolding members _∖_
@@ -120,26 +121,26 @@ pub one : (n : ℕ) → n < 8 → members (set (1 * 2 ^ n % 256)) ≡ single n
 unfolding members single
 one n h =
     same (by-places (1 * 2 ^ n % 256) (λ v. eqb n v) (omega arith)
-      (λ v l. from-alike _ _ (all-two 8 8 (λ n v. alike (has (1 * 2 ^ n % 256) v) (eqb n v)) refl n v h l))
-      (λ v g. ne-eqb n v (λ e. omega arith)))
+    (λ v l. from-alike _ _ (all-two 8 8 (λ n v. alike (has (1 * 2 ^ n % 256) v) (eqb n v)) refl n v h l))
+    (λ v g. ne-eqb n v (λ e. omega arith)))
 
 pub first : (n : ℕ) → n < 8 → members (set (1 * 2 ^ n % 256 - 1)) ≡ below n
 unfolding members below
 first n h =
     same (by-places (1 * 2 ^ n % 256 - 1) (λ v. ltb v n) (omega arith)
-      (λ v l. from-alike _ _ (all-two 8 8 (λ n v. alike (has (1 * 2 ^ n % 256 - 1) v) (ltb v n)) refl n v h l))
-      (λ v g. le-ltb v n (omega arith)))
+    (λ v l. from-alike _ _ (all-two 8 8 (λ n v. alike (has (1 * 2 ^ n % 256 - 1) v) (ltb v n)) refl n v h l))
+    (λ v g. le-ltb v n (omega arith)))
 
 pub full : members (set 255) ≡ below 8
 unfolding members below
 full =
     same (by-places 255 (λ v. ltb v 8) (omega arith)
-      (λ v l. from-alike _ _ (all-at 8 (λ v. alike (has 255 v) (ltb v 8)) refl v l))
-      (λ v g. le-ltb v 8 g))
+    (λ v l. from-alike _ _ (all-at 8 (λ v. alike (has 255 v) (ltb v 8)) refl v l))
+    (λ v g. le-ltb v 8 g))
 
 pub nothing : (m : ℕ) → m < 256 → eqb m 0 ≡ empty (members (set m))
 unfolding members empty
 nothing m h =
     from-alike _ _ (all-at 256
-      (λ m. alike (eqb m 0) (not (has m 0 || (has m 1 || (has m 2 || (has m 3 || (has m 4 || (has m 5 || (has m 6 || has m 7)))))))))
-      refl m h)
+    (λ m. alike (eqb m 0) (not (has m 0 || (has m 1 || (has m 2 || (has m 3 || (has m 4 || (has m 5 || (has m 6 || has m 7)))))))))
+    refl m h)

@@ -6,7 +6,6 @@ use Rattle.sets.specs.declared.SmallSet.{SmallSet}
 
 infixl 40 _∪_ _∩_ _∖_
 infixl 20 _⊆_
-
 abbrev pub NumberSet : Type 0
 NumberSet = ℕ → Bool
 

@@ -42,19 +42,25 @@ impl SmallSet {
     pub fn union(self, other: SmallSet) -> SmallSet
         ensures { λ r. ⌜ members r ≡ members self ∪ members other ⌝ }
     {
-        SmallSet { mask: self.mask | other.mask }
+        SmallSet {
+            mask: self.mask | other.mask,
+        }
     }
 
     pub fn intersection(self, other: SmallSet) -> SmallSet
         ensures { λ r. ⌜ members r ≡ members self ∩ members other ⌝ }
     {
-        SmallSet { mask: self.mask & other.mask }
+        SmallSet {
+            mask: self.mask & other.mask,
+        }
     }
 
     pub fn minus(self, other: SmallSet) -> SmallSet
         ensures { λ r. ⌜ members r ≡ members self ∖ members other ⌝ }
     {
-        SmallSet { mask: self.mask & !other.mask }
+        SmallSet {
+            mask: self.mask & !other.mask,
+        }
     }
 
     /// Whether each number of this set is in the other.
@@ -75,13 +81,23 @@ impl SmallSet {
     pub fn single(number: u8) -> SmallSet
         ensures { λ r. ⌜ members r ≡ cond (ltb number 8) (single number) none ⌝ }
     {
-        if number < 8 { SmallSet { mask: 1 << number } } else { SmallSet::none() }
+        if number < 8 {
+            SmallSet { mask: 1 << number }
+        } else {
+            SmallSet::none()
+        }
     }
 
     /// The numbers below `end`, up to 7.
     pub fn below(end: u8) -> SmallSet
         ensures { λ r. ⌜ members r ≡ below (min end 8) ⌝ }
     {
-        if end < 8 { SmallSet { mask: (1 << end) - 1 } } else { SmallSet { mask: 255 } }
+        if end < 8 {
+            SmallSet {
+                mask: (1 << end) - 1,
+            }
+        } else {
+            SmallSet { mask: 255 }
+        }
     }
 }

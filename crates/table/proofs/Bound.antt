@@ -6,6 +6,7 @@ use Prim.Native.Nat.{ℕ, _+_, _<_, _≤_}
 use lib.ListN.{length, take}
 use Rattle.std.proofs.shelf.Lists.{take-more}
 use Rattle.std.specs.declared.option.Option.the-variants.{Some, None}
+use Rattle.refusal.specs.Causes.{refusalAt}
 use Rattle.refusal.specs.declared.Refusal.{Refusal}
 use Rattle.refusal.specs.declared.Cause.the-variants.{BoundBefore}
 use Rattle.table.specs.declared.node.Node.{Node}
@@ -29,7 +30,7 @@ module _ (ns : List Node) (i : ℕ) (h : i < length ns) (B K : NumberSet) (binds
   asked r e = e ∙ ap (λ (L : NumberSet). meets L K) binds ∙ ap (λ (L : NumberSet). meets (bindings (nodeAt ns i)) L) inv
 
   pub bound-fresh : (r : Bool) → r ≡ meets B K → r ≡ false → None ≡ first (ofBindings ns i)
-  bound-fresh r e n = ap (λ (b : Bool). cond b (Some (record { cause = BoundBefore; place = i })) None) (sym n ∙ asked r e)
+  bound-fresh r e n = ap (λ (b : Bool). cond b (Some (refusalAt BoundBefore i)) None) (sym n ∙ asked r e)
 
-  pub bound-again : (r : Bool) → r ≡ meets B K → r ≡ true → Some (record { cause = BoundBefore; place = i }) ≡ first (ofBindings ns i)
-  bound-again r e y = ap (λ (b : Bool). cond b (Some (record { cause = BoundBefore; place = i })) None) (sym y ∙ asked r e)
+  pub bound-again : (r : Bool) → r ≡ meets B K → r ≡ true → Some (refusalAt BoundBefore i) ≡ first (ofBindings ns i)
+  bound-again r e y = ap (λ (b : Bool). cond b (Some (refusalAt BoundBefore i)) None) (sym y ∙ asked r e)

@@ -125,7 +125,7 @@ module _ (D : Declarations) (ns : List Node) where
       (none-append ofNodes (together ns) (all-turns (ofNode D ns) ns (λ i l. (h .limits i l, (h .descends i l, (h .declared i l, (h .intervals i l, tt))))))
       (none-append ofAllParents (ofAllBindings ++ ofRoot ns) (all-turns (ofParents ns) ns (λ i l. (h .one-parent i l, tt)))
       (none-append ofAllBindings (ofRoot ns) (all-turns (ofBindings ns) ns (λ i l. (h .fresh i l, tt)))
-       (none-broken (ofRoot ns) (h .closed, tt)))))
+      (none-broken (ofRoot ns) (h .closed, tt)))))
 
 pub refused-unless-formed : RefusedUnlessFormed
 refused-unless-formed D ns = (λ h. sym (unrefused D ns h), λ e. formed D ns (sym e))

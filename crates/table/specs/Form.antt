@@ -8,6 +8,7 @@ use lib.ListN.{length, getD, take}
 use Rattle.std.specs.Joined.{joined}
 use Rattle.std.specs.declared.option.Option.{Option}
 use Rattle.std.specs.declared.option.Option.the-variants.{Some, None}
+use Rattle.refusal.specs.Causes.{refusalAt}
 use Rattle.refusal.specs.declared.Cause.{Cause}
 use Rattle.refusal.specs.declared.Cause.the-variants.{NodeCount, OverLimit, ChildNotBelow, NotDeclared, BadInterval, NotOneParent, BoundBefore, FreeAtRoot}
 use Rattle.refusal.specs.declared.Refusal.{Refusal}
@@ -182,7 +183,7 @@ pub record Question : Type 0 where
   pub broken : Bool
 
 abbrev pub ask : Cause → ℕ → Bool → Question
-ask c i b = record { refusal = record { cause = c; place = i }; broken = b }
+ask c i b = record { refusal = refusalAt c i; broken = b }
 
 -- the refusal of the first rule that is broken
 abbrev pub first : List Question → Option Refusal

@@ -17,10 +17,10 @@ use crate::node::Declaration;
 use crate::node::Interval;
 use crate::node::Node;
 use crate::node::Terms;
-use sets::SmallSet;
 use crate::terms::some_over;
 use refusal::Cause;
 use refusal::Refusal;
+use sets::SmallSet;
 
 /// How often a node has `child` for an operand.
 pub fn times_in(node: Node, child: usize) -> usize
@@ -152,7 +152,10 @@ fn not_declared(node: Node, declarations: &[Option<Declaration>]) -> bool
     ensures { λ r. ⌜ r ≡ notDeclared (now (declarations .entry)) node ⌝ }
 {
     match node {
-        Node::Atom { predicate, terms } => declared_otherwise(declaration_of(declarations, predicate), terms.count),
+        Node::Atom { predicate, terms } => declared_otherwise(
+            declaration_of(declarations, predicate),
+            terms.count,
+        ),
         _ => false,
     }
 }
@@ -162,7 +165,11 @@ pub fn declaration_of(declarations: &[Option<Declaration>], predicate: u8) -> Op
     ensures { λ r. ⌜ r ≡ getD (now (declarations .entry)) predicate None ⌝ }
 {
     let predicate = usize::from(predicate);
-    if predicate < declarations.len() { declarations[predicate] } else { None }
+    if predicate < declarations.len() {
+        declarations[predicate]
+    } else {
+        None
+    }
 }
 
 /// What the node i breaks by itself.
@@ -172,13 +179,13 @@ fn check_node(nodes: &[Node], i: usize, declarations: &[Option<Declaration>]) ->
 {
     let node = nodes[i];
     if over_limit(node) {
-        Err(Refusal { cause: Cause::OverLimit, place: i })
+        Err(Cause::OverLimit.at(i))
     } else if not_below(node, i) {
-        Err(Refusal { cause: Cause::ChildNotBelow, place: i })
+        Err(Cause::ChildNotBelow.at(i))
     } else if not_declared(node, declarations) {
-        Err(Refusal { cause: Cause::NotDeclared, place: i })
+        Err(Cause::NotDeclared.at(i))
     } else if bad_interval(node) {
-        Err(Refusal { cause: Cause::BadInterval, place: i })
+        Err(Cause::BadInterval.at(i))
     } else {
         Ok(())
     }
@@ -209,7 +216,7 @@ fn check_parent(nodes: &[Node], i: usize) -> Result<(), Refusal>
     ensures { λ r. ⌜ errPart r ≡ first (ofParents (now (nodes .entry)) i) ⌝ }
 {
     if i + 1 < nodes.len() && parent_count(nodes, i) != 1 {
-        return Err(Refusal { cause: Cause::NotOneParent, place: i });
+        return Err(Cause::NotOneParent.at(i));
     }
     Ok(())
 }
@@ -231,7 +238,7 @@ fn check_bindings(nodes: &[Node]) -> Result<(), Refusal>
     for (i, node) in nodes.iter().enumerate() {
         let binds = variables_bound(*node);
         if binds.meets(bound) {
-            return Err(Refusal { cause: Cause::BoundBefore, place: i });
+            return Err(Cause::BoundBefore.at(i));
         }
         bound = bound.union(binds);
     }
@@ -254,9 +261,9 @@ fn check_size(nodes: &[Node], declarations: &[Option<Declaration>]) -> Result<()
     ensures { λ r. ⌜ errPart r ≡ first (ofSize (now (declarations .entry)) (now (nodes .entry))) ⌝ }
 {
     if nodes.len() == 0 || nodes.len() > 32 {
-        Err(Refusal { cause: Cause::NodeCount, place: 0 })
+        Err(Cause::NodeCount.at(0))
     } else if some_declaration_over(declarations) {
-        Err(Refusal { cause: Cause::OverLimit, place: 0 })
+        Err(Cause::OverLimit.at(0))
     } else {
         Ok(())
     }
@@ -274,7 +281,7 @@ fn check_root(nodes: &[Node]) -> Result<FreeSets, Refusal>
     if sets[root].is_empty() {
         Ok(sets)
     } else {
-        Err(Refusal { cause: Cause::FreeAtRoot, place: root })
+        Err(Cause::FreeAtRoot.at(root))
     }
 }
 
@@ -290,7 +297,10 @@ fn check_together(nodes: &[Node]) -> Result<FreeSets, Refusal>
     check_root(nodes)
 }
 
-pub(crate) fn check_all(nodes: &[Node], declarations: &[Option<Declaration>]) -> Result<FreeSets, Refusal>
+pub(crate) fn check_all(
+    nodes: &[Node],
+    declarations: &[Option<Declaration>],
+) -> Result<FreeSets, Refusal>
     ensures refusal { λ r. ⌜ errPart r ≡ first (formQuestions (now (declarations .entry)) (now (nodes .entry))) ⌝ }
     ensures formed { λ r. ⌜ made r (λ _. Formed (now (declarations .entry)) (now (nodes .entry))) ⌝ }
     ensures free { λ r. ⌜ made r (λ s. FreeUpTo s (length (now (nodes .entry))) (formulas (now (nodes .entry)))) ⌝ }
@@ -303,5 +313,4 @@ pub(crate) fn check_all(nodes: &[Node], declarations: &[Option<Declaration>]) ->
 /// The theorem that a table is refused exactly if it does not keep every form rule.
 pub fn form_rules_stand()
     ensures { λ _. ⌜ RefusedUnlessFormed ⌝ }
-{
-}
+{}

@@ -26,7 +26,11 @@ fn free_of(node: Node, i: usize, sets: &FreeSets) -> SmallSet
         | Node::Since { left, right, .. }
         | Node::Until { left, right, .. } => sets[left].union(sets[right]),
         Node::Exists { variables, body } => sets[body].minus(variables),
-        Node::Forall { variables, left, right } => sets[left].union(sets[right]).minus(variables),
+        Node::Forall {
+            variables,
+            left,
+            right,
+        } => sets[left].union(sets[right]).minus(variables),
         Node::Prev { body, .. }
         | Node::Once { body, .. }
         | Node::Hist { body, .. }

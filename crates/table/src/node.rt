@@ -37,17 +37,59 @@ pub struct Declaration {
 pub enum Node {
     True,
     False,
-    Atom { predicate: u8, terms: Terms },
-    And { left: usize, right: usize },
-    Or { left: usize, right: usize },
-    Exists { variables: SmallSet, body: usize },
-    Forall { variables: SmallSet, left: usize, right: usize },
-    Prev { interval: Interval, body: usize },
-    Once { interval: Interval, body: usize },
-    Hist { interval: Interval, body: usize },
-    Next { interval: Interval, body: usize },
-    Event { interval: Interval, body: usize },
-    Always { interval: Interval, body: usize },
-    Since { interval: Interval, left: usize, right: usize },
-    Until { interval: Interval, left: usize, right: usize },
+    Atom {
+        predicate: u8,
+        terms: Terms,
+    },
+    And {
+        left: usize,
+        right: usize,
+    },
+    Or {
+        left: usize,
+        right: usize,
+    },
+    Exists {
+        variables: SmallSet,
+        body: usize,
+    },
+    Forall {
+        variables: SmallSet,
+        left: usize,
+        right: usize,
+    },
+    Prev {
+        interval: Interval,
+        body: usize,
+    },
+    Once {
+        interval: Interval,
+        body: usize,
+    },
+    Hist {
+        interval: Interval,
+        body: usize,
+    },
+    Next {
+        interval: Interval,
+        body: usize,
+    },
+    Event {
+        interval: Interval,
+        body: usize,
+    },
+    Always {
+        interval: Interval,
+        body: usize,
+    },
+    Since {
+        interval: Interval,
+        left: usize,
+        right: usize,
+    },
+    Until {
+        interval: Interval,
+        left: usize,
+        right: usize,
+    },
 }

@@ -34,7 +34,10 @@ impl Table {
         ensures nodes { λ r. ⌜ vec-items (r .nodes) ≡ [] ⌝ }
         ensures declarations { λ r. ⌜ r .declarations ≡ replicate 64 None ⌝ }
     {
-        Table { declarations: [None; 64], nodes: Vec::new(heap) }
+        Table {
+            declarations: [None; 64],
+            nodes: Vec::new(heap),
+        }
     }
 
     /// Declares a predicate, in place of an earlier declaration; a predicate over 63 has a number over its limit.
@@ -45,7 +48,7 @@ impl Table {
     {
         let place = usize::from(predicate);
         if place > 63 {
-            return Err(Refusal { cause: Cause::OverLimit, place: 0 });
+            return Err(Cause::OverLimit.at(0));
         }
         self.declarations[place] = Some(declaration);
         Ok(())
@@ -79,6 +82,9 @@ impl Table {
     {
         let nodes = Vec::from_slice(heap, self.nodes.as_slice())?;
         let declarations = self.declarations;
-        Ok(Table { declarations, nodes })
+        Ok(Table {
+            declarations,
+            nodes,
+        })
     }
 }

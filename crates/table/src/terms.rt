@@ -33,7 +33,11 @@ fn variable_in(term: Term, wanted: bool) -> SmallSet
 {
     match term {
         Term::Variable(variable) => {
-            if wanted { SmallSet::single(variable) } else { SmallSet::none() }
+            if wanted {
+                SmallSet::single(variable)
+            } else {
+                SmallSet::none()
+            }
         }
         Term::Constant(_) => SmallSet::none(),
     }

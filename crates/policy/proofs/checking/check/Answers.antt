@@ -1,4 +1,6 @@
-use mathlib.Core.Path.{refl, sym, _∙_}
+use mathlib.Core.Path.{refl, sym, ap, _∙_}
+use Rattle.std.specs.declared.option.Option.the-variants.{Some}
+use Rattle.refusal.specs.declared.Refusal.{Refusal}
 use Rattle.std.specs.Of.Vec.{vec-items}
 use Rattle.policy.proofs.Verdicts.{accepted-if, unrefused, form-refusal, mode-refusal, refused, allowed}
 use Rattle.policy.proofs.checking.check.Needs as need
@@ -26,5 +28,7 @@ returns-in-Ok-walk-root c =
 pub returns-in-Err-walk-root : need.returns-in-Err-walk-root
 returns-in-Err-walk-root c =
     let t = c .args .table in
-    let e = mode-refusal (t .declarations) (vec-items (t .nodes)) (c .in-Err-walk-root .place) (c .in-Ok .ensures tt .refusal) (c .in-Err-walk-root .ensures tt) in
+    let e =
+    ap (λ (x : Refusal). Some x) (c .at .ensures)
+    ∙ mode-refusal (t .declarations) (vec-items (t .nodes)) (c .in-Err-walk-root .place) (c .in-Ok .ensures tt .refusal) (c .in-Err-walk-root .ensures tt) in
     record { table = refl; refusal = e; accepts = refused (t .declarations) (vec-items (t .nodes)) _ e }

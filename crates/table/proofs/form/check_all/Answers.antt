@@ -31,8 +31,8 @@ returns c =
     let ns = c .args .nodes .now in
     let D = c .args .declarations .now in
     let whole =
-        c .check-together .ensures .refusal
-        ∙ sym (first-past (ofSize D ns) (inTurn (ofNode D ns) 0 ns ++ together ns) (c .in-Continue-check-size .ensures tt) ∙ first-past (inTurn (ofNode D ns) 0 ns) (together ns) (c .in-Continue-check-nodes .ensures tt)) in
+    c .check-together .ensures .refusal
+    ∙ sym (first-past (ofSize D ns) (inTurn (ofNode D ns) 0 ns ++ together ns) (c .in-Continue-check-size .ensures tt) ∙ first-past (inTurn (ofNode D ns) 0 ns) (together ns) (c .in-Continue-check-nodes .ensures tt)) in
     record {
       refusal = whole;
       formed = made-if-unrefused D ns _ whole;

@@ -29,7 +29,7 @@ returns c =
     let ns = c .args .nodes .now in
     record {
       refusal =
-        c .check-root .ensures .refusal
-        ∙ sym (first-past (inTurn (ofParents ns) 0 ns) (inTurn (ofBindings ns) 0 ns ++ ofRoot ns) (c .in-Continue-check-parents .ensures tt) ∙ first-past (inTurn (ofBindings ns) 0 ns) (ofRoot ns) (c .in-Continue-check-bindings .ensures tt));
+          c .check-root .ensures .refusal
+          ∙ sym (first-past (inTurn (ofParents ns) 0 ns) (inTurn (ofBindings ns) 0 ns ++ ofRoot ns) (c .in-Continue-check-parents .ensures tt) ∙ first-past (inTurn (ofBindings ns) 0 ns) (ofRoot ns) (c .in-Continue-check-bindings .ensures tt));
       free = c .check-root .ensures .free;
     }

@@ -10,4 +10,4 @@ walk-returns t c =
     let ns = c .args .self .nodes .now in
     c .walk-node .ensures
     ∙ sym (ap (λ (f : Formula). walk (c .args .mode) (c .args .self .declarations .now) f (members (c .args .known)))
-        (unrolled ns (c .args .n) (c .pre .0) (c .pre .1 .descends (c .args .n) (c .pre .0))))
+    (unrolled ns (c .args .n) (c .pre .0) (c .pre .1 .descends (c .args .n) (c .pre .0))))

@@ -1,0 +1,4 @@
+mod Counting
+mod Labels
+mod Parting
+mod Spelling

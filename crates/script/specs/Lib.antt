@@ -1,0 +1,9 @@
+pub mod Pieces
+pub mod Words
+pub mod Numbers
+pub mod Reading
+pub mod Facts
+pub mod Nodes
+pub mod Operators
+pub mod Verbs
+pub mod Commands

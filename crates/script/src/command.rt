@@ -85,10 +85,10 @@ pub enum Command {
 }
 
 /// Whether a line has no command to be read: it is empty, or begins with `#`.
-pub fn is_passed_over(line: &str) -> bool
+pub fn is_passed_over(line: &[u8]) -> bool
     ensures { λ r. ⌜ r ≡ passedOver (now (line .entry)) ⌝ }
 {
-    match line.as_bytes() {
+    match line {
         [] => true,
         [first, ..] => *first == b'#',
     }
@@ -312,18 +312,18 @@ fn command_of(verb: Verb, words: Words) -> Option<Command>
 }
 
 /// The command that a line is, or none if it cannot be read as one.
-pub fn read(line: &str) -> Option<Command>
+pub fn read(line: &[u8]) -> Option<Command>
     ensures { λ r. ⌜ r ≡ commandOn (now (line .entry)) ⌝ }
 {
-    let (word, rest) = Words::of(line.as_bytes()).first()?;
+    let (word, rest) = Words::of(line).first()?;
     command_of(Verb::read(word)?, rest)
 }
 
 /// The fact at this index, from 0, of those that stand in a line behind its verb and stamp.
-pub fn fact_at(line: &str, index: usize) -> Option<Fact>
+pub fn fact_at(line: &[u8], index: usize) -> Option<Fact>
     ensures { λ r. ⌜ r ≡ factOn (now (line .entry)) index ⌝ }
 {
-    let (_, rest) = Words::of(line.as_bytes()).first()?;
+    let (_, rest) = Words::of(line).first()?;
     let (_, facts) = rest.first()?;
     Fact::read(facts.at(index)?)
 }

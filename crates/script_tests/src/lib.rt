@@ -114,7 +114,7 @@ mod tests {
     #[test]
     fn good_lines_are_read() -> Result<(), Fail> {
         for line in GOOD {
-            check(script::read(line).is_some()).note(line)?;
+            check(script::read(line.as_bytes()).is_some()).note(line)?;
         }
         Ok(())
     }
@@ -122,13 +122,13 @@ mod tests {
     #[test]
     fn bad_lines_are_not_read() -> Result<(), Fail> {
         for line in BAD {
-            check(script::read(line).is_none()).note(line)?;
+            check(script::read(line.as_bytes()).is_none()).note(line)?;
         }
         Ok(())
     }
 
     fn added(line: &str) -> Option<Fact> {
-        match script::read(line) {
+        match script::read(line.as_bytes()) {
             Some(Command::Add(fact)) => Some(fact),
             _ => None,
         }
@@ -143,16 +143,16 @@ mod tests {
 
     #[test]
     fn facts_of_a_line_are_numbered_from_0() -> Result<(), Fail> {
-        let fact = script::fact_at("commit 5 p3(5,7) p4(8)", 1).ok_or("no fact")?;
+        let fact = script::fact_at(b"commit 5 p3(5,7) p4(8)", 1).ok_or("no fact")?;
         check(fact.predicate == 4 && fact.count == 1 && fact.values[0] == 8)?;
-        check(script::fact_at("commit 5 p3(5,7) p4(8)", 2).is_none())
+        check(script::fact_at(b"commit 5 p3(5,7) p4(8)", 2).is_none())
     }
 
     #[test]
     fn comments_and_empty_lines_are_passed_over() -> Result<(), Fail> {
-        check(script::is_passed_over(""))?;
-        check(script::is_passed_over("# table"))?;
-        check(!script::is_passed_over(" # table"))?;
-        check(!script::is_passed_over("table"))
+        check(script::is_passed_over(b""))?;
+        check(script::is_passed_over(b"# table"))?;
+        check(!script::is_passed_over(b" # table"))?;
+        check(!script::is_passed_over(b"table"))
     }
 }

@@ -2,11 +2,13 @@
 use mathlib.Core.Path.{_≡_}
 use mathlib.Core.Bool.{Bool, cond}
 use mathlib.Core.List.{List, [], _∷_, _++_}
-use Prim.Native.Nat.{ℕ, zero, suc}
+use Prim.Native.Nat.{ℕ, zero, suc, _≤_, _<_}
 use lib.ListN.{length, replicate, set}
 use Rattle.std.specs.Of.Vec.{vec-items}
 use Rattle.std.specs.declared.option.Option.{Option}
 use Rattle.std.specs.declared.option.Option.the-variants.{Some, None}
+use Rattle.refusal.specs.Causes.{refusalAt}
+use Rattle.refusal.specs.declared.Cause.the-variants.{OverLimit}
 use Rattle.policy.specs.declared.Policy.{Policy}
 use Rattle.policy.specs.Checked.{nodesOf, declarationsOf}
 use Rattle.policy.specs.Modes.{cached}
@@ -32,11 +34,11 @@ pub record Begun (before : Hub) (a : Answer) (after : Hub) : Type 0 where
   pub empty : Empty (after .table)
   pub kept : after .policy ≡ before .policy
 
--- a predicate was declared, in place of an earlier declaration, or refused; with no table nothing was done
+-- a predicate was declared, in place of an earlier declaration, or refused as over 63; with no table nothing was done
 abbrev pub DeclaredIn : ℕ → Declaration → Option Table → Answer → Option Table → Type 0
 DeclaredIn p d None a u = (a ≡ answer.NothingToDo) × (u ≡ None)
-DeclaredIn p d (Some t) (answer.Predicate q) (Some u) = (q ≡ p) × (u .declarations ≡ set (t .declarations) p (Some d)) × (u .nodes ≡ t .nodes)
-DeclaredIn p d (Some t) (answer.Refused r) (Some u) = (u .declarations ≡ t .declarations) × (u .nodes ≡ t .nodes)
+DeclaredIn p d (Some t) (answer.Predicate q) (Some u) = (p ≤ 63) × (q ≡ p) × (u .declarations ≡ set (t .declarations) p (Some d)) × (u .nodes ≡ t .nodes)
+DeclaredIn p d (Some t) (answer.Refused r) (Some u) = (63 < p) × (r ≡ refusalAt OverLimit 0) × (u .declarations ≡ t .declarations) × (u .nodes ≡ t .nodes)
 DeclaredIn p d (Some t) answer.EmptyTable u = ⊥
 DeclaredIn p d (Some t) (answer.Node n) u = ⊥
 DeclaredIn p d (Some t) (answer.Accepted w c) u = ⊥

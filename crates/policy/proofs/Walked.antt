@@ -54,9 +54,8 @@ pub over-past : (ns : List Node) (free : List SmallSet) (n : ℕ) → n < length
 over-past ns free n h o b e = e (formulas ns) n ∙ ap overPast (sym (unrolled ns n h (o .descends n h)))
 
 module _ (D : Declarations) (f : Formula) (b : Bool) (over : b ≡ overPast f) where
-  pub cached-if : (K : NumberSet) (w : Result (Unit {0}) ℕ) → b ≡ true → K ≡ none → w ≡ walk Build D f K → isOk w ≡ cached D f
-  cached-if K w y e h =
-      ap isOk (h ∙ ap (walk Build D f) e) ∙ walk-tells Build D f none ∙ ap (λ (c : Bool). c && moded Build D f none) (sym y ∙ over)
+  pub cached-if : (K : NumberSet) (r : Bool) → b ≡ true → K ≡ none → r ≡ moded Build D f K → r ≡ cached D f
+  cached-if K r y e h = h ∙ ap (moded Build D f) e ∙ ap (λ (c : Bool). c && moded Build D f none) (sym y ∙ over)
 
   pub not-cached : b ≡ false → b ≡ cached D f
   not-cached n = n ∙ ap (λ (c : Bool). c && moded Build D f none) (sym n ∙ over)

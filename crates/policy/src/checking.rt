@@ -15,7 +15,6 @@ ghost use Rattle.policy.specs.Checked.{refusalIn, tableIn};
 ghost use Rattle.policy.specs.declared.modes.Mode.the-variants.{Search};
 use crate::checked::Policy;
 use crate::links::parents_of;
-use crate::modes::Mode;
 use crate::modes::Outline;
 use crate::waits::waits_of;
 use refusal::Cause;
@@ -61,7 +60,7 @@ fn walk_root<'a>(table: &'a Table, free: &'a FreeSets) -> Result<(), usize>
         declarations: &table.declarations,
         free,
     };
-    outline.walk(Mode::Search, nodes.len() - 1, SmallSet::none())
+    outline.searchable(nodes.len() - 1, SmallSet::none())
 }
 
 /// A table that was found good, with what is noted of its nodes.

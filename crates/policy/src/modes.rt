@@ -4,13 +4,15 @@ ghost use mathlib.Core.Bool.{Bool, true, false};
 ghost use mathlib.Core.List.{List};
 ghost use Prim.Native.Nat.{ℕ, _<_, _≤_};
 ghost use lib.ListN.{length, getD};
+ghost use Rattle.std.specs.Results.{isOk};
 ghost use Rattle.std.specs.declared.option.Option.the-variants.{None};
 ghost use Rattle.sets.specs.Sets.{members, none, _∪_, _⊆_};
 ghost use Rattle.table.specs.Formula.{Formula, formulas, formulaAt, formulaOf, arguments};
 ghost use Rattle.table.specs.Form.{notBelow, nodeAt};
-ghost use Rattle.policy.specs.Modes.{givenOf, needed, sameOutside, bindsAll, startOf, searching, walk, walkSides, ifOnly, overPast, cached, WalkTells};
+ghost use Rattle.policy.specs.Modes.{givenOf, needed, sameOutside, bindsAll, startOf, searching, searchable, buildable, walk, walkSides, ifOnly, overPast, cached, WalkTells};
 ghost use Rattle.policy.specs.Examples.{ExamplesHold};
 ghost use Rattle.policy.specs.Outlined.{Outlined};
+ghost use Rattle.policy.specs.declared.modes.Mode.the-variants.{Search};
 use sets::SmallSet;
 use table::Declaration;
 use table::FreeSets;
@@ -92,7 +94,7 @@ pub(crate) struct Outline<'a> {
 
 impl Outline<'_> {
     /// Where the walk from node n first fails, with these variables known.
-    pub(crate) fn walk(self, mode: Mode, n: usize, known: SmallSet) -> Result<(), usize>
+    fn walk(self, mode: Mode, n: usize, known: SmallSet) -> Result<(), usize>
         requires { ⌜ n < length (self .nodes .now) ⌝ ∗ ⌜ Outlined (self .nodes .now) (self .free .now) ⌝ }
         ensures { λ r. ⌜ r ≡ walk mode (self .entry .declarations .now) (formulaAt (self .entry .nodes .now) n) (members known) ⌝ }
     {
@@ -190,12 +192,29 @@ impl Outline<'_> {
 }
 
 impl Outline<'_> {
+    /// Ok if the node n is searchable with these variables known, else the node at which the walk first fails.
+    pub(crate) fn searchable(self, n: usize, known: SmallSet) -> Result<(), usize>
+        requires { ⌜ n < length (self .nodes .now) ⌝ ∗ ⌜ Outlined (self .nodes .now) (self .free .now) ⌝ }
+        ensures walked { λ r. ⌜ r ≡ walk Search (self .entry .declarations .now) (formulaAt (self .entry .nodes .now) n) (members known) ⌝ }
+        ensures tells { λ r. ⌜ isOk r ≡ searchable (self .entry .declarations .now) (members known) (formulaAt (self .entry .nodes .now) n) ⌝ }
+    {
+        self.walk(Mode::Search, n, known)
+    }
+
+    /// Whether the rows of the node n can be built with these variables known.
+    fn buildable(self, n: usize, known: SmallSet) -> bool
+        requires { ⌜ n < length (self .nodes .now) ⌝ ∗ ⌜ Outlined (self .nodes .now) (self .free .now) ⌝ }
+        ensures { λ r. ⌜ r ≡ buildable (self .entry .declarations .now) (members known) (formulaAt (self .entry .nodes .now) n) ⌝ }
+    {
+        self.walk(Mode::Build, n, known).is_ok()
+    }
+
     /// Whether the node n keeps rows: a prev, once or since that is buildable.
     fn is_cached(self, n: usize) -> bool
         requires { ⌜ n < length (self .nodes .now) ⌝ ∗ ⌜ Outlined (self .nodes .now) (self .free .now) ⌝ }
         ensures { λ r. ⌜ r ≡ cached (self .entry .declarations .now) (formulaAt (self .entry .nodes .now) n) ⌝ }
     {
-        is_over_past(self.nodes[n]) && self.walk(Mode::Build, n, SmallSet::none()).is_ok()
+        is_over_past(self.nodes[n]) && self.buildable(n, SmallSet::none())
     }
 
     pub(crate) fn cached(self) -> [bool; 32]

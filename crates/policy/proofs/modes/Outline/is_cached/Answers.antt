@@ -1,11 +1,9 @@
-use mathlib.Core.Path.{_∙_}
 use Rattle.policy.proofs.Walked.{over-past, cached-if, not-cached}
 use Rattle.policy.proofs.modes.Outline.is_cached.Needs as need
 
 pub returns-then-is-over-past : need.returns-then-is-over-past
 returns-then-is-over-past c =
-    c .is-ok .ensures .value
-    ∙ cached-if (c .args .self .declarations .now) _ _ (over-past _ _ (c .args .n) (c .pre .0) (c .pre .1) _ (c .is-over-past .ensures)) _ (c .walk .result) (c .if-is-over-past .taken) (c .none .ensures) (c .walk .ensures)
+    cached-if (c .args .self .declarations .now) _ _ (over-past _ _ (c .args .n) (c .pre .0) (c .pre .1) _ (c .is-over-past .ensures)) _ _ (c .if-is-over-past .taken) (c .none .ensures) (c .buildable .ensures)
 
 pub returns-else-is-over-past : need.returns-else-is-over-past
 returns-else-is-over-past c =

@@ -1,8 +1,8 @@
 -- Numbers that pass a test, one more at a time.
 use mathlib.Core.Path.{_≡_, refl, ap, _∙_}
 use mathlib.Core.Bool.{Bool, true, false, cond}
-use mathlib.Core.List.{List, [], _∷_, _++_}
-use Prim.Native.Nat.{ℕ, _+_, suc}
+use mathlib.Core.List.{[], _∷_, _++_}
+use Prim.Native.Nat.{ℕ, _+_}
 use native.Mathlib.Numerals.{add-one}
 use Rattle.std.proofs.shelf.Lists.{append-nil}
 use Rattle.hub.specs.Steps.{chosen}

@@ -1,9 +1,9 @@
 -- The walk and the rules of modes agree.
 use mathlib.Core.Path.{_≡_, refl, sym, ap, _∙_}
-use mathlib.Core.Bool.{Bool, true, false, _&&_, cond}
+use mathlib.Core.Bool.{Bool, true, false, _&&_}
 use mathlib.Core.List.{List}
-use Prim.Native.Nat.{ℕ, _+_, _*_, _<_, _≤_}
-use lib.ListN.{length, getD, set}
+use Prim.Native.Nat.{ℕ, _<_}
+use lib.ListN.{length}
 use Rattle.std.specs.Results.{isOk}
 use Rattle.std.specs.declared.result.Result.{Result}
 use Rattle.std.specs.declared.result.Result.the-variants.{Ok, Err}
@@ -14,9 +14,8 @@ use Rattle.sets.specs.declared.SmallSet.{SmallSet}
 use Rattle.table.proofs.Unrolled.{unrolled}
 use Rattle.policy.specs.Outlined.{Outlined}
 use Rattle.table.specs.Form.{Declarations, nodeAt}
-use Rattle.policy.specs.declared.modes.Mode.{Mode}
 use Rattle.policy.specs.declared.modes.Mode.the-variants.{Build}
-use Rattle.policy.specs.Modes.{moded, walk, andThen, ifOnly, searching, startOf, sameOutside, bindsAll, WalkTells, needed, overPast, cached}
+use Rattle.policy.specs.Modes.{moded, andThen, ifOnly, searching, startOf, sameOutside, bindsAll, WalkTells, needed, overPast, cached}
 
 both : (r s : Result (Unit {0}) ℕ) (a b : Bool) → isOk r ≡ a → isOk s ≡ b → isOk (andThen r s) ≡ (a && b)
 both (Ok _) s a b p q = ap (λ (c : Bool). c && isOk s) p ∙ ap (λ (c : Bool). a && c) q

@@ -1,6 +1,6 @@
 //! The links from each node to its parent, by which the search comes back up.
 ghost use mathlib.Core.Path.{_≡_};
-ghost use Prim.Native.Nat.{ℕ, _+_, _<_, _≤_};
+ghost use Prim.Native.Nat.{ℕ, _<_, _≤_};
 ghost use lib.ListN.{length, getD};
 ghost use Rattle.policy.specs.Links.{parentFrom};
 use table::Node;

@@ -1,14 +1,14 @@
 //! The recursive mode checks over the node table.
 ghost use mathlib.Core.Path.{_≡_};
-ghost use mathlib.Core.Bool.{Bool, true, false};
+ghost use mathlib.Core.Bool.{true, false};
 ghost use mathlib.Core.List.{List};
-ghost use Prim.Native.Nat.{ℕ, _<_, _≤_};
+ghost use Prim.Native.Nat.{ℕ, _<_};
 ghost use lib.ListN.{length, getD};
 ghost use Rattle.std.specs.Results.{isOk};
 ghost use Rattle.std.specs.declared.option.Option.the-variants.{None};
-ghost use Rattle.sets.specs.Sets.{members, none, _∪_, _⊆_};
+ghost use Rattle.sets.specs.Sets.{members};
 ghost use Rattle.table.specs.Formula.{Formula, formulas, formulaAt, formulaOf, arguments};
-ghost use Rattle.table.specs.Form.{notBelow, nodeAt};
+ghost use Rattle.table.specs.Form.{notBelow};
 ghost use Rattle.policy.specs.Modes.{givenOf, needed, sameOutside, bindsAll, startOf, searching, searchable, buildable, walk, walkSides, ifOnly, overPast, cached, WalkTells};
 ghost use Rattle.policy.specs.Examples.{ExamplesHold};
 ghost use Rattle.policy.specs.Outlined.{Outlined};
@@ -108,10 +108,9 @@ impl Outline<'_> {
     {
         match node {
             Node::True | Node::False => Ok(()),
-            Node::Atom { predicate, terms } => if_only(
-                self.needed(predicate, terms).within(known),
-                n,
-            ),
+            Node::Atom { predicate, terms } => {
+                if_only(self.needed(predicate, terms).within(known), n)
+            }
             Node::And { left, right } => {
                 self.walk(mode, left, known)?;
                 self.walk(mode, right, known.union(self.free[left]))
@@ -126,22 +125,20 @@ impl Outline<'_> {
                 if_only(variables.within(self.free[body]), n)
             }
             Node::Forall {
-                variables,
+                variables: bound,
                 left,
                 right,
             } => {
                 self.walk(mode, left, known)?;
-                self.walk(mode, right, known.union(variables))?;
+                self.walk(mode, right, known.union(bound))?;
                 if_only(
-                    binds_all(known, variables, self.free[left], self.free[right]),
+                    binds_all(known, bound, self.free[left], self.free[right]),
                     n,
                 )
             }
-            Node::Prev { body, .. } | Node::Once { body, .. } => self.walk(
-                mode,
-                body,
-                start_of(mode, known),
-            ),
+            Node::Prev { body, .. } | Node::Once { body, .. } => {
+                self.walk(mode, body, start_of(mode, known))
+            }
             Node::Next { body, .. } | Node::Event { body, .. } => {
                 if_only(is_search(mode), n)?;
                 self.walk(mode, body, known)
@@ -151,13 +148,9 @@ impl Outline<'_> {
                 self.walk(mode, body, known)?;
                 if_only(self.free[body].within(known), n)
             }
-            Node::Since { left, right, .. } => self.walk_sides(
-                mode,
-                n,
-                left,
-                right,
-                start_of(mode, known),
-            ),
+            Node::Since { left, right, .. } => {
+                self.walk_sides(mode, n, left, right, start_of(mode, known))
+            }
             Node::Until { left, right, .. } => {
                 if_only(is_search(mode), n)?;
                 self.walk_sides(mode, n, left, right, known)

@@ -1,9 +1,9 @@
 //! How long each node's truth waits for later positions.
 ghost use mathlib.Core.Path.{_≡_};
-ghost use mathlib.Core.Bool.{Bool, true, false};
+ghost use mathlib.Core.Bool.{false};
 ghost use mathlib.Core.List.{List};
 ghost use Prim.Native.Nat.{ℕ, _+_, _*_, _<_, _≤_};
-ghost use lib.ListN.{length, getD};
+ghost use lib.ListN.{length};
 ghost use Rattle.table.specs.Formula.{Formula, formulas, formulaOf};
 ghost use Rattle.table.specs.Form.{notBelow, nodeAt};
 ghost use Rattle.policy.specs.Wait.{upper, wait, WaitsUpTo, BoundedBy};

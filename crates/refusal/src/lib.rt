@@ -1,8 +1,5 @@
 //! The closed list of refusals: why a call was refused, by which layer, and where.
 ghost use mathlib.Core.Path.{_≡_};
-ghost use mathlib.Core.List.{_++_};
-ghost use lib.Chars.{codes};
-ghost use Rattle.std.specs.Written.{decimal};
 ghost use Rattle.std.specs.declared.option.Option.the-variants.{Some};
 ghost use Rattle.refusal.specs.Causes.{numberOf, layerOf, wordsOf, nameOf, refusalAt, printed};
 use std::fmt;

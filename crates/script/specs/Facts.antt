@@ -1,6 +1,6 @@
 -- How facts and questions are written.
 use mathlib.Core.List.{List, [], _∷_}
-use mathlib.Core.Bool.{Bool, true, false, cond}
+use mathlib.Core.Bool.{cond}
 use Prim.Native.Nat.{ℕ, _+_}
 use lib.Chars.{codes}
 use lib.Dec.{eqb, ltb}

@@ -1,5 +1,5 @@
 -- The words of a line.
-use mathlib.Core.List.{List, [], _∷_}
+use mathlib.Core.List.{List}
 use Prim.Native.Nat.{ℕ}
 use Rattle.script.specs.Pieces.{pieces, piecesOf, present}
 use Rattle.script.specs.declared.pieces.Words.{Words}

@@ -1,6 +1,6 @@
 //! The commands of a script, and the reading of a line into one.
 ghost use mathlib.Core.Path.{_≡_};
-ghost use Rattle.script.specs.Commands.{passedOver, loneNumber, pred, journalKind, sized, keeperKind, keeper, draft, add, optional, layers, allFacts, commit, late, after, findFrom, find, commandOf, commandOn, factOn};
+ghost use Rattle.script.specs.Commands.{passedOver, loneNumber, pred, journalKind, sized, keeperKind, keeper, draft, add, optional, layers, allFacts, commit, late, after, find, commandOf, commandOn, factOn};
 ghost use Rattle.script.specs.Reading.{alone};
 ghost use Rattle.script.specs.Words.{remaining};
 use crate::facts::Fact;

@@ -2,7 +2,6 @@
 ghost use mathlib.Core.Path.{_≡_};
 ghost use Rattle.script.specs.Nodes.{term, oneTermMore, withTerm, noTerms, withTerms, withVariable, variables, withVariables, upper, intervalOf, operands, timed, timedOperands, atom, exists, forall, timedNode, nodeOf, nodeIn};
 ghost use Rattle.script.specs.Pieces.{pieces};
-ghost use Prim.Native.Nat.{ℕ};
 ghost use Rattle.script.specs.Numbers.{number};
 ghost use Rattle.script.specs.Reading.{alone};
 ghost use Rattle.script.specs.Words.{remaining};

@@ -1,5 +1,5 @@
 -- Sets of numbers, by their characteristic functions. Of a set of variables or of arguments the numbers 0 to 7 count.
-use mathlib.Core.Bool.{Bool, true, false, _&&_, _||_, not}
+use mathlib.Core.Bool.{Bool, false, _&&_, _||_, not}
 use Prim.Native.Nat.{ℕ, _/_, _%_, _^_}
 use lib.Dec.{eqb, ltb}
 use Rattle.sets.specs.declared.SmallSet.{SmallSet}

@@ -1,6 +1,6 @@
 //! Sets of the numbers 0 to 7: the variables of a quantifier, the arguments that must be given.
 ghost use mathlib.Core.Path.{_≡_};
-ghost use mathlib.Core.Bool.{Bool, cond};
+ghost use mathlib.Core.Bool.{cond};
 ghost use Prim.Native.Nat.{min};
 ghost use lib.Dec.{ltb};
 ghost use Rattle.sets.specs.Sets.{members, none, _∪_, _∩_, _∖_, single, below, empty, _⊆_, meets};

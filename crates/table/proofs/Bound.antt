@@ -1,17 +1,16 @@
 -- The variables that the nodes of a table bind, gathered node by node.
-use mathlib.Core.Path.{_≡_, refl, sym, ap, _∙_}
+use mathlib.Core.Path.{_≡_, sym, ap, _∙_}
 use mathlib.Core.Bool.{Bool, true, false, cond}
 use mathlib.Core.List.{List, [], _∷_, _++_}
-use Prim.Native.Nat.{ℕ, _+_, _<_, _≤_}
+use Prim.Native.Nat.{ℕ, _+_, _<_}
 use lib.ListN.{length, take}
 use Rattle.std.proofs.shelf.Lists.{take-more}
 use Rattle.std.specs.declared.option.Option.the-variants.{Some, None}
 use Rattle.refusal.specs.Causes.{refusalAt}
-use Rattle.refusal.specs.declared.Refusal.{Refusal}
 use Rattle.refusal.specs.declared.Cause.the-variants.{BoundBefore}
 use Rattle.table.specs.declared.node.Node.{Node}
 use Rattle.table.specs.declared.node.Node.the-variants.{True}
-use Rattle.sets.specs.Sets.{NumberSet, none, _∪_, meets}
+use Rattle.sets.specs.Sets.{NumberSet, _∪_, meets}
 use Rattle.table.specs.Form.{bindings, boundBy, boundBefore, nodeAt, first, ofBindings}
 use Rattle.sets.proofs.Unions.{union-assoc, union-none, none-union}
 

@@ -1,6 +1,6 @@
 -- The formula of a node, by those of its children, which come before it.
 use mathlib.Core.Path.{_≡_, refl, sym, ap, _∙_}
-use mathlib.Core.Bool.{Bool, true, false, _||_}
+use mathlib.Core.Bool.{false}
 use mathlib.Core.List.{List, [], _∷_, _++_}
 use Prim.Native.Nat.{ℕ, zero, suc, _+_, _<_, _≤_}
 use native.Mathlib.Omega.{arith}
@@ -12,8 +12,8 @@ use Rattle.std.proofs.shelf.Tests.{leb-false, or-parts}
 use Rattle.sets.specs.declared.SmallSet.{SmallSet}
 use Rattle.table.specs.declared.node.Node.{Node}
 use Rattle.table.specs.declared.node.Node.the-variants.{True, False, Atom, And, Or, Exists, Forall, Prev, Once, Hist, Next, Event, Always, Since, Until}
-use Rattle.sets.specs.Sets.{NumberSet, members}
-use Rattle.table.specs.Formula.{Formula, verum, falsum, atom, and, or, exists, forall, prev, once, hist, next, event, always, since, until, free, formulaOf, onward, formulas, formulaAt, FreeUpTo}
+use Rattle.sets.specs.Sets.{members}
+use Rattle.table.specs.Formula.{Formula, verum, exists, prev, once, hist, next, event, always, free, formulaOf, onward, formulas, formulaAt, FreeUpTo}
 use Rattle.table.proofs.Loops.{fill-more}
 use Rattle.table.specs.Form.{some, children, notBelow, nodeAt}
 

@@ -1,13 +1,13 @@
 //! The form rules: whether a table can be read as a formula at all.
 ghost use mathlib.Core.Path.{_≡_};
-ghost use mathlib.Core.Bool.{Bool, true, false};
-ghost use mathlib.Core.List.{List, [], _∷_, _++_};
+ghost use mathlib.Core.Bool.{true, false};
+ghost use mathlib.Core.List.{[], _∷_};
 ghost use Prim.Native.Nat.{ℕ, _+_, _<_, _≤_};
 ghost use lib.ListN.{length, getD};
 ghost use Rattle.std.specs.declared.option.Option.the-variants.{Some, None};
 ghost use Rattle.std.specs.Results.{errPart};
 ghost use Rattle.sets.specs.Sets.{members};
-ghost use Rattle.table.specs.Form.{some, times, children, bindings, overLimit, atomOver, declarationOver, notBelow, notDeclared, declaredOtherwise, pastOver, futureOver, badInterval, parentCount, notOneParent, boundBefore, nodeAt, wrongCount, first, inTurn, ofSize, ofNode, ofParents, ofBindings, ofRoot, together, formQuestions};
+ghost use Rattle.table.specs.Form.{some, times, children, bindings, overLimit, atomOver, declarationOver, notBelow, notDeclared, declaredOtherwise, pastOver, futureOver, badInterval, parentCount, nodeAt, wrongCount, first, inTurn, ofSize, ofNode, ofParents, ofBindings, ofRoot, together, formQuestions};
 ghost use Rattle.table.specs.Formed.{Formed, RefusedUnlessFormed};
 ghost use Rattle.table.specs.Formula.{formulas, FreeUpTo};
 ghost use Rattle.std.specs.Vec.{made};

@@ -1,9 +1,9 @@
 //! The free variables of each node of a table.
 ghost use mathlib.Core.Path.{_≡_};
-ghost use mathlib.Core.Bool.{Bool, true, false};
+ghost use mathlib.Core.Bool.{false};
 ghost use mathlib.Core.List.{List};
 ghost use Prim.Native.Nat.{ℕ, _<_, _≤_};
-ghost use lib.ListN.{length, getD};
+ghost use lib.ListN.{length};
 ghost use Rattle.sets.specs.Sets.{members};
 ghost use Rattle.table.specs.Formula.{Formula, formulaOf, formulas, free, FreeUpTo};
 ghost use Rattle.table.specs.Form.{notBelow, nodeAt};

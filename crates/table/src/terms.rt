@@ -1,9 +1,8 @@
 //! The arguments of an atom.
 ghost use mathlib.Core.Path.{_≡_};
-ghost use mathlib.Core.Bool.{Bool};
 ghost use Prim.Native.Nat.{_≤_};
-ghost use lib.ListN.{length, take};
-ghost use Rattle.sets.specs.Sets.{NumberSet, members, _∪_};
+ghost use lib.ListN.{length};
+ghost use Rattle.sets.specs.Sets.{members};
 ghost use Rattle.table.specs.Formula.{arguments, variableIn, variablesAt};
 ghost use Rattle.table.specs.Form.{some, termOver};
 use crate::node::Term;

@@ -1,4 +1,3 @@
-use mathlib.Core.Path.{_≡_}
 use Rattle.policy.proofs.Parents.{scan-here, scan-next, scan-none}
 use Rattle.policy.proofs.links.parent_of.Needs as need
 

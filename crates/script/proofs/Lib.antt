@@ -2,3 +2,4 @@ mod Counting
 mod Labels
 mod Parting
 mod Spelling
+pub mod Keeping

@@ -7,3 +7,4 @@ pub mod Nodes
 pub mod Operators
 pub mod Verbs
 pub mod Commands
+pub mod Lists

@@ -3,6 +3,7 @@ ghost use mathlib.Core.Path.{_≡_};
 ghost use Rattle.script.specs.Pieces.{pieces};
 ghost use Rattle.std.specs.Options.{Cases as BySome};
 ghost use Rattle.std.specs.declared.option.Option.the-variants.{Some, None};
+ghost use Rattle.script.specs.Lists.{ListsKept};
 ghost use Rattle.script.specs.Facts.{oneValueMore, withValue, values, listed, closed, applied, fact, place, onePlaceMore, withPlace, withPlaces, query};
 use crate::numbers::is;
 use crate::numbers::labelled;
@@ -190,3 +191,8 @@ impl Query {
         }
     }
 }
+
+/// The theorem that of values, places and terms their count and the first three are kept.
+pub fn lists_stand()
+    ensures { λ _. ⌜ ListsKept ⌝ }
+{}

@@ -16,3 +16,4 @@ pub use command::read;
 pub use facts::Fact;
 pub use facts::Query;
 pub use facts::Values;
+pub use facts::lists_stand;

@@ -6,6 +6,7 @@ use Prim.Native.Nat.{ℕ, _<_}
 use lib.ListN.{length}
 use Rattle.std.specs.declared.option.Option.the-variants.{None}
 use Rattle.table.specs.declared.node.Node.{Node}
+use Rattle.table.specs.Formula.{formulaAt, formulaOf, formulas}
 use Rattle.table.specs.Form.{Declarations, some, nodeAt, wrongCount, declarationOver, overLimit, notBelow, notDeclared, badInterval, notOneParent, boundBefore, freeAtRoot, first, formQuestions}
 
 -- the table keeps every form rule
@@ -25,3 +26,8 @@ abbrev pub RefusedUnlessFormed : Type 0
 RefusedUnlessFormed =
     (D : Declarations) (ns : List Node)
     → (Formed D ns → first (formQuestions D ns) ≡ None) × (first (formQuestions D ns) ≡ None → Formed D ns)
+
+-- the formula of a node is its operator over the formulas of its children
+abbrev pub FormulasUnfold : Type 0
+FormulasUnfold =
+    (D : Declarations) (ns : List Node) → Formed D ns → (n : ℕ) → n < length ns → formulaAt ns n ≡ formulaOf (formulas ns) n (nodeAt ns n)

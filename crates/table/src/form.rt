@@ -8,7 +8,7 @@ ghost use Rattle.std.specs.declared.option.Option.the-variants.{Some, None};
 ghost use Rattle.std.specs.Results.{errPart};
 ghost use Rattle.sets.specs.Sets.{members};
 ghost use Rattle.table.specs.Form.{some, times, children, bindings, overLimit, atomOver, declarationOver, notBelow, notDeclared, declaredOtherwise, pastOver, futureOver, badInterval, parentCount, nodeAt, wrongCount, first, inTurn, ofSize, ofNode, ofParents, ofBindings, ofRoot, together, formQuestions};
-ghost use Rattle.table.specs.Formed.{Formed, RefusedUnlessFormed};
+ghost use Rattle.table.specs.Formed.{Formed, RefusedUnlessFormed, FormulasUnfold};
 ghost use Rattle.table.specs.Formula.{formulas, FreeUpTo};
 ghost use Rattle.std.specs.Vec.{made};
 use crate::free::FreeSets;
@@ -313,4 +313,9 @@ pub(crate) fn check_all(
 /// The theorem that a table is refused exactly if it does not keep every form rule.
 pub fn form_rules_stand()
     ensures { λ _. ⌜ RefusedUnlessFormed ⌝ }
+{}
+
+/// The theorem that in a table that keeps the form rules each node stands for its operator over its children's formulas.
+pub fn formulas_stand()
+    ensures { λ _. ⌜ FormulasUnfold ⌝ }
 {}

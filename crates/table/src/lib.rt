@@ -7,6 +7,7 @@ mod terms;
 
 pub use form::declaration_of;
 pub use form::form_rules_stand;
+pub use form::formulas_stand;
 pub use form::times_in;
 pub use free::FreeSets;
 pub use node::Declaration;

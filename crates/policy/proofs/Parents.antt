@@ -9,6 +9,7 @@ use lib.Dec.{eqb, ltb}
 use lib.ListN.{length, drop}
 use Rattle.std.specs.Joined.{joined}
 use Rattle.std.specs.shelf.Lists.{All}
+use Rattle.std.proofs.shelf.Elements.{all-weaker}
 use Rattle.std.proofs.shelf.Lists.{at-drop-more, at-drop-all}
 use Rattle.std.proofs.shelf.Tests.{eq-eqb, ne-eqb, cond-true, cond-false, not-false, eqb-true, lt-ltb, and-cases, both-ways}
 use Rattle.table.specs.declared.node.Node.{Node}
@@ -37,14 +38,10 @@ module _ (ns : List Node) (k i : ℕ) (inv : parentFrom i (drop i ns) k ≡ pare
   scan-none h = sym (at-drop-all (λ (l : List Node). parentFrom i l k) ns i h) ∙ inv
 
 -- what is counted is there, and what is there is counted
-more : (P Q : ℕ → Type 0) (xs : List ℕ) → ((c : ℕ) → P c → Q c) → All P xs → All Q xs
-more P Q [] f h = tt
-more P Q (x ∷ xs) f h = (f x (h .0), more P Q xs f (h .1))
-
 counted : (xs : List ℕ) → All (λ c. 0 < times c xs) xs
 counted [] = tt
 counted (x ∷ xs) =
-    (omega (arith, ap (λ (b : Bool). cond {A = ℕ} b 1 0) (eq-eqb x x refl)), more (λ c. 0 < times c xs) (λ c. 0 < times c (x ∷ xs)) xs (λ c h. omega arith) (counted xs))
+    (omega (arith, ap (λ (b : Bool). cond {A = ℕ} b 1 0) (eq-eqb x x refl)), all-weaker (λ c. 0 < times c xs) (λ c. 0 < times c (x ∷ xs)) (λ c h. omega arith) xs (counted xs))
 
 uncounted : (k : ℕ) (xs : List ℕ) → times k xs ≡ 0 → All (λ y. k ≢ y) xs
 uncounted k [] e = tt
@@ -55,7 +52,7 @@ distinct : (xs : List ℕ) → All (λ c. times c xs ≤ 1) xs → Distinct xs
 distinct [] h = tt
 distinct (x ∷ xs) h = (
   uncounted x xs (omega (arith, h .0, ap (λ (b : Bool). cond {A = ℕ} b 1 0) (eq-eqb x x refl))),
-  distinct xs (more (λ c. times c (x ∷ xs) ≤ 1) (λ c. times c xs ≤ 1) xs (λ c l. omega arith) (h .1)),
+  distinct xs (all-weaker (λ c. times c (x ∷ xs) ≤ 1) (λ c. times c xs ≤ 1) (λ c l. omega arith) xs (h .1)),
 )
 
 none-below : (k : ℕ) (xs : List ℕ) → All (λ c. c < k) xs → times k xs ≡ 0
@@ -97,7 +94,7 @@ with-count n all (x ∷ xs) p q = ((p .0, q .0), with-count n all xs (p .1) (q .
 
 pub parent-past : (D : Declarations) (ns : List Node) (k : ℕ) → Formed D ns → rootOf ns ≤ k → parentFrom 0 ns k ≡ k
 parent-past D ns k f h =
-    no-parent 0 k ns (λ n l. none-below k _ (more (λ c. c < n) (λ c. c < k) _ (λ c d. omega arith) (children-below n (nodeAt ns n) (f .descends n l))))
+    no-parent 0 k ns (λ n l. none-below k _ (all-weaker (λ c. c < n) (λ c. c < k) (λ c d. omega arith) _ (children-below n (nodeAt ns n) (f .descends n l))))
 
 pub linked : (D : Declarations) (ns : List Node) → Formed D ns → Linked ns (parentFrom 0 ns)
 linked D ns f =
@@ -105,7 +102,7 @@ linked D ns f =
     λ n l. with-count n (children (nodeAt ns n)) (children (nodeAt ns n)) (children-below n (nodeAt ns n) (f .descends n l)) (counted (children (nodeAt ns n))) in
     let alone : (n c : ℕ) → n < length ns → c < n → parentCount ns c ≡ 1 = λ n c l d. once-child ns c (omega arith) (f .one-parent c (omega arith)) in
     record {
-      parents = λ n l. more _ _ _ (λ c u. found 0 c n ns l (u .1) (alone n c l (u .0)) ∙ omega arith) (under n l);
-      siblings = λ n l. distinct _ (more _ _ _ (λ c u. omega (arith, one-of-all ns c n l, alone n c l (u .0))) (under n l));
+      parents = λ n l. all-weaker _ _ (λ c u. found 0 c n ns l (u .1) (alone n c l (u .0)) ∙ omega arith) _ (under n l);
+      siblings = λ n l. distinct _ (all-weaker _ _ (λ c u. omega (arith, one-of-all ns c n l, alone n c l (u .0))) _ (under n l));
       root = parent-past D ns (rootOf ns) f (omega arith);
     }

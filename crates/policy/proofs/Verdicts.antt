@@ -4,7 +4,7 @@ use mathlib.Core.Bool.{true, false}
 use mathlib.Core.List.{List}
 use Prim.Native.Nat.{ℕ}
 use native.Mathlib.Omega.{arith}
-use Rattle.std.specs.Options.{isSome}
+use Rattle.std.specs.Options.{isSome, orOther as orElse}
 use Rattle.std.specs.Orderings.{Decides}
 use Rattle.std.specs.Results.{isOk}
 use Rattle.std.specs.declared.option.Option.{Option}
@@ -22,7 +22,7 @@ use Rattle.table.specs.Formed.{Formed}
 use Rattle.table.proofs.Questions.{refused-unless-formed}
 use Rattle.policy.specs.declared.modes.Mode.the-variants.{Search}
 use Rattle.policy.specs.Modes.{walk}
-use Rattle.policy.specs.Verdict.{ofWalk, orElse, refusalOf, Accepted, RefusedUnlessAccepted}
+use Rattle.policy.specs.Verdict.{ofWalk, refusalOf, Accepted, RefusedUnlessAccepted}
 use Rattle.policy.proofs.Walked.{walk-tells}
 
 never : (x : Refusal) → Some x ≡ None → ⊥

@@ -4,7 +4,7 @@ use mathlib.Core.Bool.{Bool, true, false, _&&_}
 use mathlib.Core.List.{List}
 use Prim.Native.Nat.{ℕ, _<_}
 use lib.ListN.{length}
-use Rattle.std.specs.Results.{isOk}
+use Rattle.std.specs.Results.{isOk, andOther as andThen}
 use Rattle.std.specs.declared.result.Result.{Result}
 use Rattle.std.specs.declared.result.Result.the-variants.{Ok, Err}
 use Rattle.sets.specs.Sets.{NumberSet, none, _∪_, _⊆_}
@@ -15,7 +15,7 @@ use Rattle.table.proofs.Unrolled.{unrolled}
 use Rattle.policy.specs.Outlined.{Outlined}
 use Rattle.table.specs.Form.{Declarations, nodeAt}
 use Rattle.policy.specs.declared.modes.Mode.the-variants.{Build}
-use Rattle.policy.specs.Modes.{moded, andThen, ifOnly, searching, startOf, sameOutside, bindsAll, WalkTells, needed, overPast, cached}
+use Rattle.policy.specs.Modes.{moded, ifOnly, searching, startOf, sameOutside, bindsAll, WalkTells, needed, overPast, cached}
 
 both : (r s : Result (Unit {0}) ℕ) (a b : Bool) → isOk r ≡ a → isOk s ≡ b → isOk (andThen r s) ≡ (a && b)
 both (Ok _) s a b p q = ap (λ (c : Bool). c && isOk s) p ∙ ap (λ (c : Bool). a && c) q

@@ -4,7 +4,7 @@ use mathlib.Core.Bool.{Bool, true, false, _&&_, cond}
 use mathlib.Core.List.{List}
 use Prim.Native.Nat.{ℕ}
 use lib.ListN.{getD}
-use Rattle.std.specs.Results.{isOk}
+use Rattle.std.specs.Results.{isOk, andOther as andThen}
 use Rattle.std.specs.declared.option.Option.{Option}
 use Rattle.std.specs.declared.option.Option.the-variants.{Some, None}
 use Rattle.std.specs.declared.result.Result.{Result}
@@ -92,10 +92,6 @@ cached D f = overPast f && buildable D none f
 
 -- The walk that looks for the failing node: from the root to the leaves, left before right, but right first at since
 -- and until; a node's own conditions on sets come after its operands. It answers Ok, or the node where it first fails.
-abbrev pub andThen : Result (Unit {0}) ℕ → Result (Unit {0}) ℕ → Result (Unit {0}) ℕ
-andThen (Ok _) r = r
-andThen (Err n) r = Err n
-
 abbrev pub ifOnly : Bool → ℕ → Result (Unit {0}) ℕ
 ifOnly b n = cond b (Ok tt) (Err n)
 

@@ -1,16 +1,8 @@
 -- The laws of unions.
 use mathlib.Core.Path.{_≡_, refl}
-use mathlib.Core.Bool.{Bool, true, false, _||_}
+use mathlib.Core.Bool.{or-assoc, or-false}
 use Rattle.sets.specs.Sets.{NumberSet, none, _∪_}
 use Rattle.sets.proofs.Masks.{same}
-
-or-assoc : (a b c : Bool) → ((a || b) || c) ≡ (a || (b || c))
-or-assoc true b c = refl
-or-assoc false b c = refl
-
-or-false : (a : Bool) → (a || false) ≡ a
-or-false true = refl
-or-false false = refl
 
 pub union-assoc : (K L M : NumberSet) → (K ∪ L) ∪ M ≡ K ∪ (L ∪ M)
 unfolding _∪_

@@ -1,4 +1,6 @@
 //! Facts, the order of their arguments, and what answers questions about facts.
+#![tactic(auto)]
+
 mod calculated;
 mod fact;
 mod scan;

@@ -1,4 +1,6 @@
 //! How long a find takes at the first, the middle and the last position of a full journal.
+#![tactic(auto)]
+
 use facts::{Fact, FactSource, Query};
 use journal::Journal;
 use packed::Packed;

@@ -1,4 +1,6 @@
 //! The hub: reads a script from standard input, carries each command out, and prints what came of it.
+#![tactic(auto)]
+
 mod answer;
 mod hub;
 

@@ -1,4 +1,6 @@
 //! Journals: sources of facts that also have stamps and take new positions, and the layers over any journal.
+#![tactic(auto)]
+
 mod joined;
 mod journal;
 mod session;

@@ -1,4 +1,6 @@
 //! Truth of metric first-order temporal logic: theorems on it, each on a function's contract.
+#![tactic(auto)]
+
 ghost use Rattle.mfotl.specs.Examples.{ExamplesStand, QuantifiedExamples};
 ghost use Rattle.mfotl.specs.Laws.{FormedTables, FreeOnly, Reach, Settled};
 

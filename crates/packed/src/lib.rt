@@ -1,4 +1,6 @@
 //! A journal in bytes.
+#![tactic(auto)]
+
 mod appending;
 mod creation;
 mod numbers;

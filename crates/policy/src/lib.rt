@@ -1,4 +1,6 @@
 //! Checked policies: the modes of a formula, which of its nodes keep rows, and how long a verdict waits.
+#![tactic(auto)]
+
 mod checked;
 mod checking;
 mod links;

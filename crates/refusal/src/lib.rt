@@ -1,4 +1,6 @@
 //! The closed list of refusals: why a call was refused, by which layer, and where.
+#![tactic(auto)]
+
 ghost use Rattle.std.specs.Prelude.{◌≡◌, Some};
 ghost use Rattle.refusal.specs.Causes.{number_of, layer_of, words_of, name_of, refusal_at, printed};
 

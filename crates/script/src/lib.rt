@@ -1,4 +1,6 @@
 //! A line of a script, read into a command: on values, with no input or output.
+#![tactic(auto)]
+
 mod command;
 mod facts;
 mod nodes;

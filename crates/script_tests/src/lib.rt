@@ -1,4 +1,6 @@
 //! Lines that a script may hold, good and bad, and what is read of them.
+#![tactic(auto)]
+
 #[cfg(test)]
 mod tests {
     use script::{Command, Fact};

@@ -1,4 +1,6 @@
 //! Sets of the numbers 0 to 7: the variables of a quantifier, the arguments that must be given.
+#![tactic(auto)]
+
 ghost use Rattle.std.specs.Prelude.{◌≡◌, min, if◌then◌else◌, nat_lt};
 ghost use Rattle.sets.specs.Sets.{members, none, ◌∪◌, ◌∩◌, ◌∖◌, single, below, empty, ◌⊆◌, meets};
 

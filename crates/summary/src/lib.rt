@@ -1,4 +1,6 @@
 //! Summaries of the past: rows, and what keeps them.
+#![tactic(auto)]
+
 ghost use Rattle.summary.specs.Growth.{CachedHaveRows, RowsGrow, RowsStay};
 ghost use Rattle.summary.specs.Rows.{RowsServe};
 

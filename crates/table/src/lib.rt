@@ -1,4 +1,6 @@
 //! The table of a policy: what a caller hands over, its formula, and the form rules.
+#![tactic(auto)]
+
 mod form;
 mod free;
 mod node;

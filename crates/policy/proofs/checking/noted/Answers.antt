@@ -9,15 +9,15 @@ use Rattle.policy.proofs.checking.noted.Goals as goal
 pub invariant-of-result : goal.invariant-of-result
 invariant-of-result c =
     let D = c.args.table.declarations in
-    let same = c.as-slice-nodes.ensures.value in (
+    let same = c.as_slice-nodes.ensures.value in (
       ap is_some (unrefused D (vec_items c.args.table.nodes) c.requires.accepted),
       (
         (λ n v h. ap (λ (K : NumberSet). K v) (c.requires.free n h)),
         (
-          subst (λ (ns : List Node). WaitsNoted ns c.waits-of-waits.result) same c.waits-of-waits.ensures,
+          subst (λ (ns : List Node). WaitsNoted ns c.waits_of-waits.result) same c.waits_of-waits.ensures,
           (
             subst (λ (ns : List Node). CachedNoted D ns c.cached-cached.result) same c.cached-cached.ensures,
-            (subst (λ (ns : List Node). ParentsNoted ns c.parents-of-parents.result) same c.parents-of-parents.ensures, tt),
+            (subst (λ (ns : List Node). ParentsNoted ns c.parents_of-parents.result) same c.parents_of-parents.ensures, tt),
           ),
         ),
       ),

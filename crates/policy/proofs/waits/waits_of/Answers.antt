@@ -12,7 +12,7 @@ loop-i-preserved c =
     let i = c.loop-i.i in
     let t = c.loop-i-test.true in (
       fill_more (λ (j x : ℕ). x ≡ wait (formula_at ns j)) c.loop-i.waits 0 _ i (omega arith) c.loop-i.invariant.0
-          (c.wait-of.ensures.is (formulas ns) c.loop-i.invariant.0 ∙ ap wait (sym (unrolled ns i t (c.requires.descends i t)))),
-      fill_more (λ (j x : ℕ). x ≤ (i + 1) * 4294967295) c.loop-i.waits 0 _ i (omega arith) (λ j l. omega (arith, c.loop-i.invariant.1 j l)) c.wait-of.ensures.bound,
-      length-set c.loop-i.waits i c.wait-of.result ∙ c.loop-i.invariant.2,
+          (c.wait_of.ensures.is (formulas ns) c.loop-i.invariant.0 ∙ ap wait (sym (unrolled ns i t (c.requires.descends i t)))),
+      fill_more (λ (j x : ℕ). x ≤ (i + 1) * 4294967295) c.loop-i.waits 0 _ i (omega arith) (λ j l. omega (arith, c.loop-i.invariant.1 j l)) c.wait_of.ensures.bound,
+      length-set c.loop-i.waits i c.wait_of.result ∙ c.loop-i.invariant.2,
     )

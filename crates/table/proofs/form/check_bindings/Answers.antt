@@ -9,13 +9,13 @@ pub returns-then-meets : goal.returns-then-meets
 returns-then-meets c =
     ap (λ (x : Refusal). Some x) c.at.ensures
     ∙ turn_stop (of_bindings c.args.nodes.now) _ _ c.loop-i.invariant.0 _ c.loop-i-test.true
-    (bound_again _ _ c.loop-i-test.true _ _ c.variables-bound-binds.ensures c.loop-i.invariant.1 _ c.meets.ensures c.if-meets.true)
+    (bound_again _ _ c.loop-i-test.true _ _ c.variables_bound-binds.ensures c.loop-i.invariant.1 _ c.meets.ensures c.if-meets.true)
 
 pub loop-i-preserved : goal.loop-i-preserved
 loop-i-preserved c = (
   turn_next (of_bindings c.args.nodes.now) _ _ c.loop-i.invariant.0 c.loop-i-test.true
-      (bound_fresh _ _ c.loop-i-test.true _ _ c.variables-bound-binds.ensures c.loop-i.invariant.1 _ c.meets.ensures c.if-meets.false),
-  bound_more _ _ c.loop-i-test.true _ _ c.variables-bound-binds.ensures c.loop-i.invariant.1 _ c.union-bound.ensures,
+      (bound_fresh _ _ c.loop-i-test.true _ _ c.variables_bound-binds.ensures c.loop-i.invariant.1 _ c.meets.ensures c.if-meets.false),
+  bound_more _ _ c.loop-i-test.true _ _ c.variables_bound-binds.ensures c.loop-i.invariant.1 _ c.union-bound.ensures,
 )
 
 pub returns : goal.returns

@@ -4,7 +4,7 @@ use Rattle.table.proofs.form.parent_count.Goals as goal
 
 pub loop-node-preserved : goal.loop-node-preserved
 loop-node-preserved c =
-    (count_next c.args.nodes.now c.args.child _ _ _ c.loop-node-test.true c.times-in-count.ensures.is c.loop-node.invariant.0, search rules)
+    (count_next c.args.nodes.now c.args.child _ _ _ c.loop-node-test.true c.times_in-count.ensures.is c.loop-node.invariant.0, search rules)
 
 pub returns : goal.returns
 returns c = count_done c.args.nodes.now c.args.child _ _ c.loop-node-test.false c.loop-node.invariant.0

@@ -14,7 +14,7 @@ loop-place-init c =
 pub loop-place-preserved : goal.loop-place-preserved
 loop-place-preserved c =
     gather_more (members c.args.places) _ _ _ c.loop-place.invariant (Variable 0) _ _ c.loop-place-test.true
-    (c.variable-in.ensures ∙ ap (λ (b : Bool). variable_in b (get_or c.args.terms.now c.loop-place.place (Variable 0))) c.contains.ensures)
+    (c.variable_in.ensures ∙ ap (λ (b : Bool). variable_in b (get_or c.args.terms.now c.loop-place.place (Variable 0))) c.contains.ensures)
     c.union-found.ensures
 
 pub returns : goal.returns

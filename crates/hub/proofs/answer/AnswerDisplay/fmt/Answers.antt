@@ -3,9 +3,9 @@ use Rattle.std.proofs.Output.{has_written_append, has_written_of_eq}
 use Rattle.hub.specs.Answers.{nodes, printed}
 use Rattle.hub.proofs.answer.AnswerDisplay.fmt.Goals as goal
 
-pub returns-in-ok-write-clause-writes : goal.returns-in-ok-write-clause-writes
-returns-in-ok-write-clause-writes g c = λ plain e.
-    let first = c.in-ok-write.ensures.shows plain refl in
+pub returns-in_ok-write-clause-writes : goal.returns-in_ok-write-clause-writes
+returns-in_ok-write-clause-writes g c = λ plain e.
+    let first = c.in_ok-write.ensures.shows plain refl in
     has_written_of_eq _ _ _ _ _
-    (ap (λ (l : List ℕ). (codes "accepted, wait " ++ (decimal c.in-Accepted.wait ++ codes ", cached")) ++ nodes l) c.as-slice.ensures.value ∙ ap printed (sym c.in-Accepted.is))
-    (has_written_append _ _ _ _ _ _ first (c.write-cached.ensures first.plain e))
+    (ap (λ (l : List ℕ). (codes "accepted, wait " ++ (decimal c.in-Accepted.wait ++ codes ", cached")) ++ nodes l) c.as_slice.ensures.value ∙ ap printed (sym c.in-Accepted.is))
+    (has_written_append _ _ _ _ _ _ first (c.write_cached.ensures first.plain e))

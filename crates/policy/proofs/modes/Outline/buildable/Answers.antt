@@ -6,4 +6,4 @@ use Rattle.policy.proofs.Walked.{walk_tells}
 use Rattle.policy.proofs.modes.Outline.buildable.Goals as goal
 
 pub returns : goal.returns
-returns c = c.is-ok.ensures.value ∙ ap is_ok c.walk.ensures ∙ walk_tells Build c.args.self.declarations.now (formula_at c.args.self.nodes.now c.args.n) (members c.args.known)
+returns c = c.is_ok.ensures.value ∙ ap is_ok c.walk.ensures ∙ walk_tells Build c.args.self.declarations.now (formula_at c.args.self.nodes.now c.args.n) (members c.args.known)

@@ -38,8 +38,8 @@ pub scan_found : (f : Facts) (p : ℕ) (q : Query) (a : Option (List ℕ)) (xs :
     → f.needs q.predicate q.count ≡ own_needs q.predicate q.count → ((vs : List ℕ) → f.holds p q.predicate vs ≡ among q.predicate vs xs)
     → allowed f q ≡ Ok tt → r ≡ fold (better q a) None xs → Found f p q a (Ok r)
 scan_found f p q a xs r n e h b =
-    let own-needs : answerable (own_needs q.predicate q.count) q ≡ Ok tt = subst (λ K. answerable K q ≡ Ok tt) n h in
-    let few : q.count < 4 = ltb-true q.count 4 (few_asked q (own q.predicate) (ltb q.count 4) own-needs) in
+    let own_needs : answerable (own_needs q.predicate q.count) q ≡ Ok tt = subst (λ K. answerable K q ≡ Ok tt) n h in
+    let few : q.count < 4 = ltb-true q.count 4 (few_asked q (own q.predicate) (ltb q.count 4) own_needs) in
     record {
       cases = (
         h,

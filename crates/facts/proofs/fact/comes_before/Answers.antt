@@ -5,4 +5,4 @@ use Rattle.std.specs.Ordering.{is_lt}
 use Rattle.facts.proofs.fact.comes_before.Goals as goal
 
 pub returns : goal.returns
-returns c = c.is-lt.ensures ∙ ap is_lt (lex-says nat_cmp_total c.args.values.now c.args.others.now c.cmp.result c.cmp.ensures)
+returns c = c.is_lt.ensures ∙ ap is_lt (lex-says nat_cmp_total c.args.values.now c.args.others.now c.cmp.result c.cmp.ensures)

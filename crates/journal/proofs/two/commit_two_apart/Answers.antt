@@ -10,7 +10,7 @@ returns g c =
     let f = g.J.FactSource.facts in
     let m = g.J.Journal.trace in
     let s = c.new-session.result in
-    let t = c.commit-two-answer.new.journal in
+    let t = c.commit_two-answer.new.journal in
     let a = c.args.first in
     let xs = c.args.facts.now in
     let b = c.args.second in
@@ -19,8 +19,8 @@ returns g c =
     let below : s.lower.lower ≡ c.args.journal = ap (λ l. l.lower) c.new-session.ensures.lower ∙ c.new.ensures.lower in
     let hides : base ≡ shown (m s.lower.lower) =
     omega (arith, c.new-session.ensures.base, ap (λ l. shown (m l.lower)) c.new-session.ensures.lower) in
-    let two = c.commit-two-answer.ensures.does in
-    let kept = c.commit-two-answer.ensures.keeps in
+    let two = c.commit_two-answer.ensures.does in
+    let kept = c.commit_two-answer.ensures.keeps in
     let here : c.end-journal.result.0 ≡ t.lower.lower = c.end-journal.ensures.0 ∙ ap (λ l. l.lower) c.end.ensures in
     record {
       answer = two.answer ∙ ap (λ (n : ℕ). two_answer (later (m s.lower.lower) n) a xs b ys) hides ∙ ap (λ l. two_answer (later (m l) (shown (m l))) a xs b ys) below;

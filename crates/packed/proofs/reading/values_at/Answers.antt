@@ -7,4 +7,4 @@ pub loop-k-init : goal.loop-k-init
 loop-k-init c = values_none width (drop c.args.at c.args.bytes.now)
 
 pub loop-k-preserved : goal.loop-k-preserved
-loop-k-preserved c = values_next width c.loop-k.k c.args.at _ c.loop-k.values c.args.bytes.now (omega arith) c.loop-k.invariant c.number-at.ensures.value
+loop-k-preserved c = values_next width c.loop-k.k c.args.at _ c.loop-k.values c.args.bytes.now (omega arith) c.loop-k.invariant c.number_at.ensures.value

@@ -17,9 +17,9 @@ returns c =
     let n : x.count < 4 = ltb-true _ _ s.1 in
     let t : length (arguments x) ≡ x.count = three_taken x.count x.values n in
     let was = vec_items c.args.bytes.now in
-    let now = vec_items c.put-values.new.bytes in
+    let now = vec_items c.put_values.new.bytes in
     let e : now ≡ was ++ encode_item width (written c.args.position x) =
-    fact_put width x.predicate c.args.position _ x.count (arguments x) _ was _ _ _ t c.arguments.ensures c.from.ensures c.push-reserved.ensures.items c.put-number.ensures.items c.put-values.ensures.items in
-    let v = subst (All (λ v. v < 256 ^ width)) c.arguments.ensures c.put-values.ensures.fits in
+    fact_put width x.predicate c.args.position _ x.count (arguments x) _ was _ _ _ t c.arguments.ensures c.from.ensures c.push_reserved.ensures.items c.put_number.ensures.items c.put_values.ensures.items in
+    let v = subst (All (λ v. v < 256 ^ width)) c.arguments.ensures c.put_values.ensures.fits in
     let p = put_item width was now (written c.args.position x) c.requires.whole (q, search rules, omega arith, v) e in
     record { puts = p; len = search rules; capacity = search rules }

@@ -6,14 +6,14 @@ use Rattle.packed.proofs.writing.put_facts.Goals as goal
 pub loop-fact-init : goal.loop-fact-init
 loop-fact-init c = (record { sound = c.requires.sound; bytes = refl; whole = c.requires.whole; items = refl; len = refl }, refl)
 
-pub put-fact-requires : goal.put-fact-requires
-put-fact-requires c =
+pub put_fact-requires : goal.put_fact-requires
+put_fact-requires c =
     let f = left_first _ _ _ _ (vec_items c.loop-fact.bytes) _ _ 0 _ _ _ _ (drop_more _ _ _ c.loop-fact-test.true) c.loop-fact.invariant.0 in
     record { whole = c.loop-fact.invariant.0.whole; sound = f.0; room = omega (arith, f.1) }
 
 pub loop-fact-preserved : goal.loop-fact-preserved
 loop-fact-preserved c =
-    let e = c.put-fact.ensures in
+    let e = c.put_fact.ensures in
     (left_next _ _ _ _ _ _ _ _ _ _ _ _ (drop_more _ _ _ c.loop-fact-test.true) c.loop-fact.invariant.0 e.puts e.len, search rules)
 
 pub returns : goal.returns

@@ -7,7 +7,7 @@ use Rattle.packed.proofs.Steps.{values_more}
 use Rattle.packed.proofs.writing.put_values.Goals as goal
 
 pub loop-v-preserved : goal.loop-v-preserved
-loop-v-preserved c = (values_more width c.loop-v.v-index _ (vec_items c.args.bytes.now) (vec_items c.loop-v.bytes) _ c.args.values.now c.loop-v-test.true (search rules) c.loop-v.invariant.0 c.put-number.ensures.items, search rules, search rules)
+loop-v-preserved c = (values_more width c.loop-v.v-index _ (vec_items c.args.bytes.now) (vec_items c.loop-v.bytes) _ c.args.values.now c.loop-v-test.true (search rules) c.loop-v.invariant.0 c.put_number.ensures.items, search rules, search rules)
 
 pub returns : goal.returns
 returns c = record {

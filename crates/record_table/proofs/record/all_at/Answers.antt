@@ -2,15 +2,15 @@ use Rattle.std.proofs.Common.{◌≡◌, ◌+◌, ◌≤◌, length, ◌∙◌, 
 use Rattle.record_table.specs.Records.{count_before}
 use Rattle.record_table.proofs.Sorted.{count_rises, count_length, count_next, at_part}
 use Rattle.record_table.proofs.record.all_at.Goals as goal
-use Rattle.record_table.proofs.record.all_at.Goals.{After-first-at-to}
+use Rattle.record_table.proofs.record.all_at.Goals.{After-first_at-to}
 
-end : (c : After-first-at-to) → c.first-at-to.result ≡ count_before (c.args.position + 1) c.args.records.now
-end c = c.first-at-to.ensures ∙ count_next c.args.position c.saturating-add.result c.args.records.now c.requires.placed c.saturating-add.ensures
+end : (c : After-first_at-to) → c.first_at-to.result ≡ count_before (c.args.position + 1) c.args.records.now
+end c = c.first_at-to.ensures ∙ count_next c.args.position c.saturating_add.result c.args.records.now c.requires.placed c.saturating_add.ensures
 
-in-turn : (c : After-first-at-to) → c.first-at-from.result ≤ c.first-at-to.result
+in-turn : (c : After-first_at-to) → c.first_at-from.result ≤ c.first_at-to.result
 in-turn c = omega (arith, end c, count_rises c.args.position (c.args.position + 1) c.args.records.now (omega arith))
 
-inside : (c : After-first-at-to) → c.first-at-to.result ≤ length c.args.records.now
+inside : (c : After-first_at-to) → c.first_at-to.result ≤ length c.args.records.now
 inside c = omega (arith, end c, count_length (c.args.position + 1) c.args.records.now)
 
 pub offset-bounds-records-from : goal.offset-bounds-records-from
@@ -26,5 +26,5 @@ pub slice-bounds-result-end : goal.slice-bounds-result-end
 slice-bounds-result-end c = inside c
 
 pub returns : goal.returns
-returns c = at_part c.args.position c.first-at-from.result c.first-at-to.result c.args.records.now c.requires.sorted c.first-at-from.ensures
-    (c.first-at-to.ensures ∙ count_next c.args.position c.saturating-add.result c.args.records.now c.requires.placed c.saturating-add.ensures)
+returns c = at_part c.args.position c.first_at-from.result c.first_at-to.result c.args.records.now c.requires.sorted c.first_at-from.ensures
+    (c.first_at-to.ensures ∙ count_next c.args.position c.saturating_add.result c.args.records.now c.requires.placed c.saturating_add.ensures)

@@ -6,9 +6,9 @@ use Rattle.record_table.proofs.record.append.Goals as goal
 
 pub loop-fact-preserved : goal.loop-fact-preserved
 loop-fact-preserved c = (
-  c.push-reserved.ensures.items
+  c.push_reserved.ensures.items
       ∙ records_next c.args.position (vec_items c.args.records.now) (vec_items c.loop-fact.records) c.args.facts.now c.loop-fact.fact-index _ c.loop-fact-test.true (search rules) c.loop-fact.invariant.0,
-  omega (arith, c.push-reserved.ensures.len),
+  omega (arith, c.push_reserved.ensures.len),
   search rules,
 )
 

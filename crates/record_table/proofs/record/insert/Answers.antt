@@ -3,4 +3,4 @@ use Rattle.record_table.proofs.Sorted.{count_length}
 use Rattle.record_table.proofs.record.insert.Goals as goal
 
 pub insert-requires : goal.insert-requires
-insert-requires c = omega (arith, count_length (c.args.position + 1) c.as-slice.result.now, c.as-slice.ensures.len)
+insert-requires c = omega (arith, count_length (c.args.position + 1) c.as_slice.result.now, c.as_slice.ensures.len)

@@ -4,8 +4,8 @@ use Rattle.summary.proofs.layout.cut_out.Goals as goal
 
 pub returns : goal.returns
 returns c = record {
-  items = c.truncate.ensures.items ∙ ap (take (c.len-len.result - c.args.count)) c.copy-within.ensures.items
+  items = c.truncate.ensures.items ∙ ap (take (c.len-len.result - c.args.count)) c.copy_within.ensures.items
       ∙ cut_is c.args.from c.args.count c.len-len.result (vec_items c.args.rows.now) (search rules) (search rules);
-  len = omega (arith, c.truncate.ensures.len, c.copy-within.ensures.len, c.len-len.ensures, c.requires);
+  len = omega (arith, c.truncate.ensures.len, c.copy_within.ensures.len, c.len-len.ensures, c.requires);
   capacity = search rules;
 }

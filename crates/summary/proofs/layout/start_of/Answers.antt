@@ -3,12 +3,12 @@ use Rattle.std.proofs.lemmas.List.{get_or_default}
 use Rattle.summary.specs.Layout.{before}
 use Rattle.summary.proofs.Laid.{before_next, before_rises, before_zero}
 use Rattle.summary.proofs.layout.start_of.Goals as goal
-use Rattle.summary.proofs.layout.start_of.Goals.{After-unwrap-or-start}
+use Rattle.summary.proofs.layout.start_of.Goals.{After-unwrap_or-start}
 
-more : (c : After-unwrap-or-start) → c.loop-i.start + c.unwrap-or-start.result ≡ before (c.loop-i.i + 1) c.args.counts.now
+more : (c : After-unwrap_or-start) → c.loop-i.start + c.unwrap_or-start.result ≡ before (c.loop-i.i + 1) c.args.counts.now
 more c =
     let e = ap (λ (o : Option ℕ). unwrap_or o 0) (get_or_default c.args.counts.now c.loop-i.i None (Some 0) (search rules)) in
-    omega (arith, before_next c.loop-i.i c.args.counts.now, c.loop-i.invariant, c.unwrap-or-start.ensures, e)
+    omega (arith, before_next c.loop-i.i c.args.counts.now, c.loop-i.invariant, c.unwrap_or-start.ensures, e)
 
 pub overflow-add-start : goal.overflow-add-start
 overflow-add-start c = omega (arith, more c, before_rises (c.loop-i.i + 1) 32 c.args.counts.now (search rules), c.requires.few)

@@ -38,7 +38,7 @@ returns-in-Err g c =
     let same = below.refused refl in
     record {
       does = record {
-        answer = ap (λ (e : Refusal). Err e) (c.own-place.ensures ∙ ap (own_place c.in-Err.refusal) c.hidden-hidden.ensures)
+        answer = ap (λ (e : Refusal). Err e) (c.own_place.ensures ∙ ap (own_place c.in-Err.refusal) c.hidden-hidden.ensures)
             ∙ ap (λ r. owned r b) below.answer ∙ commit_owned (m s.lower) b c.args.stamp c.args.facts.now;
         taken = λ o. absurd (true≢false (sym o));
         refused = λ _. ap (λ l. record { lower = l; base = s.base }) same;

@@ -59,7 +59,7 @@ returns-in-Err g c =
     let same = below.refused refl in
     record {
       does = record {
-        answer = ap (λ (e : Refusal). Err e) (c.own-place.ensures ∙ ap (own_place c.in-Err.refusal) hb)
+        answer = ap (λ (e : Refusal). Err e) (c.own_place.ensures ∙ ap (own_place c.in-Err.refusal) hb)
             ∙ ap (λ r. owned r b) (below.answer ∙ ap (λ (n : ℕ). late_answer (m s.lower) (p + n) c.args.fact) hb) ∙ late_owned (m s.lower) b p c.args.fact l;
         taken = λ o. absurd (true≢false (sym o));
         refused = λ _. ap (λ l. record { lower = l; base = s.base }) same;

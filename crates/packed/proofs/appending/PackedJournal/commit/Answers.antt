@@ -16,11 +16,11 @@ pub invariant-of-self : goal.invariant-of-self
 invariant-of-self c =
     let i = c.args.self.now in
     let was = vec_items i.bytes in
-    let now = vec_items c.put-facts.new.bytes in
+    let now = vec_items c.put_facts.new.bytes in
     let s = c.args.stamp in
     let fs = c.args.facts.now in
     let k = kept i in
-    let e = puts_both width was _ now (mark s ∷ []) (all_written i.shown fs) c.put-mark.ensures.puts c.put-facts.ensures.puts in
+    let e = puts_both width was _ now (mark s ∷ []) (all_written i.shown fs) c.put_mark.ensures.puts c.put_facts.ensures.puts in
     let n = subst (λ (m : ℕ). Kept now (i.shown + 1) (m + 1)) (sym c.from-2.ensures) (commit_kept was now i.shown i.next s fs k (search rules) e) in
     (search rules, (search rules, (search rules, (n.whole, (n.encoded, (n.counted, (n.following, (search rules, (n.placed, (n.rising, tt))))))))))
 
@@ -28,11 +28,11 @@ pub returns : goal.returns
 returns c =
     let i = c.args.self.now in
     let was = vec_items i.bytes in
-    let now = vec_items c.put-facts.new.bytes in
+    let now = vec_items c.put_facts.new.bytes in
     let s = c.args.stamp in
     let fs = c.args.facts.now in
     let k = kept i in
-    let e = puts_both width was _ now (mark s ∷ []) (all_written i.shown fs) c.put-mark.ensures.puts c.put-facts.ensures.puts in
+    let e = puts_both width was _ now (mark s ∷ []) (all_written i.shown fs) c.put_mark.ensures.puts c.put_facts.ensures.puts in
     let high : i.next ≤ s = search rules in
     let sound : sound_from 0 fs ≡ Ok tt = search rules in
     let room : 5 + costs fact_cost fs ≤ i.limit - length was = search rules in

@@ -11,16 +11,16 @@ pub invariant-of-self : goal.invariant-of-self
 invariant-of-self c =
     let i = c.args.self.now in
     let was = vec_items i.bytes in
-    let now = vec_items c.put-fact.new.bytes in
+    let now = vec_items c.put_fact.new.bytes in
     let k = kept i in
-    let n = late_kept was now i.shown i.next c.args.position c.args.fact k (search rules) c.put-fact.ensures.puts in
+    let n = late_kept was now i.shown i.next c.args.position c.args.fact k (search rules) c.put_fact.ensures.puts in
     (search rules, (search rules, (search rules, (n.whole, (n.encoded, (n.counted, (n.following, (i.last, (n.placed, (n.rising, tt))))))))))
 
 pub returns : goal.returns
 returns c =
     let i = c.args.self.now in
     let was = vec_items i.bytes in
-    let now = vec_items c.put-fact.new.bytes in
+    let now = vec_items c.put_fact.new.bytes in
     let p = c.args.position in
     let x = c.args.fact in
     let k = kept i in
@@ -28,13 +28,13 @@ returns c =
     let sound : recordable x ≡ true = search rules in
     let room : fact_cost x.count ≤ i.limit - length was = search rules in
     let long : length now ≡ length was + fact_cost x.count = search rules in
-    let ss = late_stamps was now i.shown i.next p x k shown c.put-fact.ensures.puts in
-    let n = late_kept was now i.shown i.next p x k shown c.put-fact.ensures.puts in
+    let ss = late_stamps was now i.shown i.next p x k shown c.put_fact.ensures.puts in
+    let n = late_kept was now i.shown i.next p x k shown c.put_fact.ensures.puts in
     record {
       does = record {
         answer = late_ok (bytes_trace i.limit was) p x (omega (arith, i.counted, shown)) sound room;
         taken = λ _. record {
-          facts = late_added was now i.shown i.next p x k shown c.put-fact.ensures.puts sound;
+          facts = late_added was now i.shown i.next p x k shown c.put_fact.ensures.puts sound;
           stamps = ss;
           next = sym n.following ∙ i.following;
           free = omega (arith, room, long);
@@ -44,5 +44,5 @@ returns c =
         refused = λ e. absurd (true≢false e);
       };
       keeps = tt;
-      puts = λ _. c.put-fact.ensures.puts;
+      puts = λ _. c.put_fact.ensures.puts;
     }

@@ -4,5 +4,5 @@ use Rattle.packed.proofs.packed.Packed.new.Goals as goal
 
 pub invariant-of-result : goal.invariant-of-result
 invariant-of-result c =
-    let k = kept_empty (vec_items c.in-ok-bytes.bytes) (search rules) in
+    let k = kept_empty (vec_items c.in_ok-bytes.bytes) (search rules) in
     (search rules, (search rules, (search rules, (k.whole, (k.encoded, (k.counted, (k.following, (search rules, (k.placed, (k.rising, tt))))))))))

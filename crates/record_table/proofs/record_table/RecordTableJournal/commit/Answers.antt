@@ -35,13 +35,13 @@ invariant-of-self c =
           (
             search rules,
             (
-              ap (λ (l : List Record). placed l (vec_len c.push-reserved.new.self)) c.append.ensures.items
-                  ∙ placed_append k (vec_len t.stamps) (vec_len c.push-reserved.new.self) rs fs t.placed (search rules) (search rules),
+              ap (λ (l : List Record). placed l (vec_len c.push_reserved.new.self)) c.append.ensures.items
+                  ∙ placed_append k (vec_len t.stamps) (vec_len c.push_reserved.new.self) rs fs t.placed (search rules) (search rules),
               (
                 ap (sorted 0) c.append.ensures.items
                     ∙ sorted_append k 0 rs fs t.sorted (subst (λ (n : ℕ). placed rs n ≡ true) (sym at) t.placed) (search rules),
                 (
-                  ap (λ (l : List ℕ). rising 0 l (c.from-2.result + 1)) c.push-reserved.ensures.items
+                  ap (λ (l : List ℕ). rising 0 l (c.from-2.result + 1)) c.push_reserved.ensures.items
                       ∙ ap (λ (n : ℕ). rising 0 (vec_items t.stamps ++ (c.args.stamp ∷ [])) (n + 1)) c.from-2.ensures
                       ∙ rising_more 0 t.next (vec_items t.stamps) c.args.stamp t.rising (search rules),
                   (search rules, tt),
@@ -64,9 +64,9 @@ returns c =
         answer = commit_taken (vec_items t.stamps) t.next (t.limit - (vec_len t.stamps + vec_len t.records)) c.args.stamp fs (search rules) (search rules) (search rules);
         taken = λ _. record {
           facts = added_behind (length (vec_items t.stamps)) rs (vec_items c.append.new.records) fs (c.append.ensures.items ∙ ap (λ (n : ℕ). rs ++ records_at n fs) at);
-          stamps = c.push-reserved.ensures.items;
+          stamps = c.push_reserved.ensures.items;
           next = search rules;
-          free = omega (arith, costs_length fs, c.append.ensures.len, c.push-reserved.ensures.len);
+          free = omega (arith, costs_length fs, c.append.ensures.len, c.push_reserved.ensures.len);
           mark = refl;
           fact = λ _. refl;
         };

@@ -10,5 +10,5 @@ picked xs i None h = sym (slice_get_past xs i h.3)
 picked xs i (Some x) h = sym (slice_get_read xs (length xs) i x.now (λ _. length xs) h.3.0 h.1)
 
 pub returns : goal.returns
-returns c = c.copied.ensures ∙ picked c.as-slice.result.now c.args.position c.get.result c.get.ensures.lookup
-    ∙ ap (λ (l : List ℕ). slice_get l c.args.position) c.as-slice.ensures.value
+returns c = c.copied.ensures ∙ picked c.as_slice.result.now c.args.position c.get.result c.get.ensures.lookup
+    ∙ ap (λ (l : List ℕ). slice_get l c.args.position) c.as_slice.ensures.value

@@ -5,11 +5,11 @@ use Rattle.summary.proofs.Tables.{inside_of, long}
 use Rattle.summary.proofs.row_table.RowTable.keep.Goals as goal
 
 pub overflow-add-start : goal.overflow-add-start
-overflow-add-start c = omega (arith, inside_of c.args.self.now c.args.node c.args.count c.requires.node c.requires.count, c.start-of-start.ensures, c.requires.room)
+overflow-add-start c = omega (arith, inside_of c.args.self.now c.args.node c.args.count c.requires.node c.requires.count, c.start_of-start.ensures, c.requires.room)
 
 pub insert-requires : goal.insert-requires
 insert-requires c = record {
-  within = omega (arith, inside_of c.args.self.now c.args.node c.args.count c.requires.node c.requires.count, c.start-of-start.ensures);
+  within = omega (arith, inside_of c.args.self.now c.args.node c.args.count c.requires.node c.requires.count, c.start_of-start.ensures);
   room = omega (arith, c.requires.room, c.args.self.now.reserved);
 }
 
@@ -36,7 +36,7 @@ returns c =
     let k = c.args.count in
     let rs = vec_items t.rows in
     let after = vec_items c.insert.new.rows in
-    let e : after ≡ put_in (before n t.counts + k) c.args.row rs = c.insert.ensures.items ∙ ap (λ (b : ℕ). put_in (b + k) c.args.row rs) c.start-of-start.ensures in
+    let e : after ≡ put_in (before n t.counts + k) c.args.row rs = c.insert.ensures.items ∙ ap (λ (b : ℕ). put_in (b + k) c.args.row rs) c.start_of-start.ensures in
     let l : n < length t.counts = omega (arith, c.requires.node, t.sized) in
     let f : before n t.counts + k ≤ length rs = omega (arith, inside_of t n k c.requires.node c.requires.count, long t) in
     record {

@@ -4,8 +4,8 @@ use Rattle.summary.proofs.Laid.{behind_set, lost_others, lost_here}
 use Rattle.summary.proofs.Tables.{inside_of, long}
 use Rattle.summary.proofs.row_table.RowTable.lose.Goals as goal
 
-pub cut-out-requires : goal.cut-out-requires
-cut-out-requires c = omega (arith, inside_of c.args.self.now c.args.node c.args.count c.requires.node c.requires.count, c.start-of-start.ensures)
+pub cut_out-requires : goal.cut_out-requires
+cut_out-requires c = omega (arith, inside_of c.args.self.now c.args.node c.args.count c.requires.node c.requires.count, c.start_of-start.ensures)
 
 pub invariant-of-self : goal.invariant-of-self
 invariant-of-self c =
@@ -14,8 +14,8 @@ invariant-of-self c =
     let l : n < length t.counts = omega (arith, c.requires.node, t.sized) in (
       length-set t.counts n None ∙ t.sized,
       (
-        omega (arith, behind_set t.counts n None 32 l c.requires.node, ap (λ (o : Option ℕ). unwrap_or o 0) c.requires.count, t.counted, c.cut-out.ensures.len),
-        (omega (arith, t.few, c.cut-out.ensures.len), (omega (arith, t.reserved, c.cut-out.ensures.capacity), tt)),
+        omega (arith, behind_set t.counts n None 32 l c.requires.node, ap (λ (o : Option ℕ). unwrap_or o 0) c.requires.count, t.counted, c.cut_out.ensures.len),
+        (omega (arith, t.few, c.cut_out.ensures.len), (omega (arith, t.reserved, c.cut_out.ensures.capacity), tt)),
       ),
     )
 
@@ -25,8 +25,8 @@ returns c =
     let n = c.args.node in
     let k = c.args.count in
     let rs = vec_items t.rows in
-    let after = vec_items c.cut-out.new.rows in
-    let e : after ≡ cut_out (before n t.counts) k rs = c.cut-out.ensures.items ∙ ap (λ (b : ℕ). cut_out b k rs) c.start-of-start.ensures in
+    let after = vec_items c.cut_out.new.rows in
+    let e : after ≡ cut_out (before n t.counts) k rs = c.cut_out.ensures.items ∙ ap (λ (b : ℕ). cut_out b k rs) c.start_of-start.ensures in
     let l : n < length t.counts = omega (arith, c.requires.node, t.sized) in
     let f : before n t.counts + k ≤ length rs = omega (arith, inside_of t n k c.requires.node c.requires.count, long t) in
     record {

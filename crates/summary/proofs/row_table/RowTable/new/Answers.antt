@@ -3,7 +3,7 @@ use Rattle.summary.proofs.Laid.{none_laid, none_before}
 use Rattle.summary.proofs.row_table.RowTable.new.Goals as goal
 
 pub invariant-of-result : goal.invariant-of-result
-invariant-of-result c = (refl, (c.in-ok-rows.ensures.len ∙ sym (none_before 32 32 _ refl), (search rules, (search rules, tt))))
+invariant-of-result c = (refl, (c.in_ok-rows.ensures.len ∙ sym (none_before 32 32 _ refl), (search rules, (search rules, tt))))
 
 pub returns : goal.returns
 returns c = λ n. none_laid _ n

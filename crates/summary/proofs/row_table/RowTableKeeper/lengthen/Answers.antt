@@ -7,8 +7,8 @@ use Rattle.summary.proofs.Laid.{place_some, place_none, long-others, long-here, 
 use Rattle.summary.proofs.Tables.{exists, inside, long}
 use Rattle.summary.proofs.row_table.RowTableKeeper.lengthen.Goals as goal
 
-pub row-mut-row-requires : goal.row-mut-row-requires
-row-mut-row-requires c =
+pub row_mut-row-requires : goal.row_mut-row-requires
+row_mut-row-requires c =
     let t = c.args.self.now in
     let p = place_some t.counts c.args.node c.args.index c.in-Some.at c.in-Some.ensures in
     omega (arith, p.0, p.1, inside t c.args.node (exists t c.args.node c.args.index p.0))
@@ -20,14 +20,14 @@ returns-in-Some c =
     let i = c.args.index in
     let at = c.in-Some.at in
     let rs = vec_items t.rows in
-    let r = c.row-mut-row.result.now in
+    let r = c.row_mut-row.result.now in
     let p = place_some t.counts n i at c.in-Some.ensures in
     let k = unwrap_or (count_of t.counts n) 0 in
     let h = exists t n i p.0 in
     let l : n < length t.counts = omega (arith, h, t.sized) in
     let f : before n t.counts + k ≤ length rs = omega (arith, inside t n h, long t) in
-    let e = ap (λ (x : ℕ). set rs at (record { values = r.values; first = r.first; last = x })) c.saturating-add-row.ensures
-    ∙ ap (λ (x : Row). set rs at (raised x)) c.row-mut-row.ensures.value
+    let e = ap (λ (x : ℕ). set rs at (record { values = r.values; first = r.first; last = x })) c.saturating_add-row.ensures
+    ∙ ap (λ (x : Row). set rs at (raised x)) c.row_mut-row.ensures.value
     ∙ raised_set rs at no_row (omega (arith, p.0, p.1, f))
     ∙ ap (raised_at rs) p.1 in
     let is = count_some (count_of t.counts n) i p.0 in
@@ -36,11 +36,11 @@ returns-in-Some c =
       here = long-here t.counts n k rs l is f i p.0 _ e;
     }
 
-pub returns-in-default : goal.returns-in-default
-returns-in-default c =
+pub returns-in_default : goal.returns-in_default
+returns-in_default c =
     let t = c.args.self.now in
     let n = c.args.node in
     record {
       others = λ _ _. refl;
-      here = sym (long_none (count_of t.counts n) (before n t.counts) c.args.index (vec_items t.rows) (place_none t.counts n c.args.index c.in-default.ensures));
+      here = sym (long_none (count_of t.counts n) (before n t.counts) c.args.index (vec_items t.rows) (place_none t.counts n c.args.index c.in_default.ensures));
     }

@@ -1,7 +1,7 @@
 -- The order of arguments is total, and 0 behind arguments doesn't alter it.
 use Rattle.std.proofs.Common.{◌≡◌, ℕ, ◌<◌, Bool, true, false, eqb, List, [], ◌∷◌, length, Ordering, Less, Equal, Greater, sym, refl, ap, ◌∙◌, true≢false, arith}
 use Rattle.std.specs.Cmp.{nat_cmp_total, alike_right}
-use Rattle.std.specs.Cmp.Lexicographic.{slice_cmp, lexical, lists_total}
+use Rattle.std.specs.Cmp.Lexicographic.{slice_cmp, lists_total}
 use Rattle.std.specs.Ordering.{is_lt, ordering_reverse, nat_cmp}
 use Rattle.std.proofs.lemmas.Bool.{eq-eqb, eqb-true, le-ltb, and_parts, and_from}
 use Rattle.facts.specs.Tuples.{before, same, padded}
@@ -19,15 +19,15 @@ pub before_itself : (vs : List ℕ) → before vs vs ≡ false
 before_itself vs = ap is_lt (equal_itself vs)
 
 pub before_turned : (us vs : List ℕ) → before us vs ≡ true → before vs us ≡ false
-before_turned us vs h = ap is_lt ((lexical nat_cmp_total).flip vs us ∙ ap ordering_reverse (less (slice_cmp nat_cmp us vs) h))
+before_turned us vs h = ap is_lt ((lists_total nat_cmp_total).antisymm vs us ∙ ap ordering_reverse (less (slice_cmp nat_cmp us vs) h))
 
 through : (ws vs us : List ℕ) (o : Ordering) → slice_cmp nat_cmp vs us ≡ o → is_lt o ≡ false → before ws vs ≡ false → (r : Bool) → before ws us ≡ r → before ws us ≡ false
 through ws vs us o e n m false r = r
 through ws vs us Less e n m true r = absurd (true≢false n)
 through ws vs us Equal e n m true r = absurd (true≢false (sym r ∙ sym (ap is_lt (alike_right (lists_total nat_cmp_total) vs us ws e)) ∙ m))
 through ws vs us Greater e n m true r =
-    let turned : slice_cmp nat_cmp us vs ≡ Less = (lexical nat_cmp_total).flip us vs ∙ ap ordering_reverse e in
-    absurd (true≢false (sym (ap is_lt ((lexical nat_cmp_total).trans ws us vs (less (slice_cmp nat_cmp_total ws us) r) turned)) ∙ m))
+    let turned : slice_cmp nat_cmp us vs ≡ Less = (lists_total nat_cmp_total).antisymm us vs ∙ ap ordering_reverse e in
+    absurd (true≢false (sym (ap is_lt ((lists_total nat_cmp_total).trans ws us vs (less (slice_cmp nat_cmp ws us) r) turned)) ∙ m))
 
 pub not_before_through : (ws vs us : List ℕ) → before ws vs ≡ false → before vs us ≡ false → before ws us ≡ false
 not_before_through ws vs us a b = through ws vs us (slice_cmp nat_cmp vs us) refl b a (before ws us) refl

@@ -38,7 +38,7 @@ impl fmt::Display for Answer {
 
 /// Each cached node behind a space, or ` none`.
 fn write_cached<W: fmt::Write>(f: &mut fmt::Formatter<W>, cached: &[usize]) -> fmt::Result
-    ensures { WritesOnOk write_str_gives f.old result (nodes cached.now) f.new }
+    ensures { WritesOnOk W.write_str_gives f.old result (nodes cached.now) f.new }
 {
     if cached.is_empty() {
         write!(f, " none")
@@ -49,7 +49,7 @@ fn write_cached<W: fmt::Write>(f: &mut fmt::Formatter<W>, cached: &[usize]) -> f
 
 /// Each number behind a space.
 fn write_spaced<W: fmt::Write>(f: &mut fmt::Formatter<W>, numbers: &[usize]) -> fmt::Result
-    ensures { WritesOnOk write_str_gives f.old result (spaced numbers.now) f.new }
+    ensures { WritesOnOk W.write_str_gives f.old result (spaced numbers.now) f.new }
 {
     for number in numbers {
         write!(f, " {number}")?;

@@ -12,7 +12,7 @@ pub loop-number-preserved : goal.loop-number-preserved
 loop-number-preserved g c = λ plain.
     let before = c.loop-number.invariant plain in
     has_written_of_eq _ _ _ _ _ (one_more c.args.numbers.now c.loop-number.number-index c.loop-number-test.true)
-    (has_written_append _ _ _ _ _ _ before (c.in_ok-write.ensures.shows before.plain refl))
+    (has_written_append _ _ _ _ _ _ before (c.in_ok-write.ensures.writes before.plain refl))
 
 pub returns : goal.returns
 returns g c = λ plain _. has_written_of_eq _ _ _ _ _ (ap spaced (take_all _ _ c.loop-number-test.false)) (c.loop-number.invariant plain)

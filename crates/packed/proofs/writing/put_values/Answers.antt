@@ -11,7 +11,7 @@ loop-v-preserved c = (values_more width c.loop-v.v-index _ (vec_items c.args.byt
 
 pub returns : goal.returns
 returns c = record {
-  fits = All-from_get_or (λ v. v < 256 ^ width) _ 0 (λ i _. (c.type-inv.values i).fits);
+  fits = All-from_get_or (λ v. v < 256 ^ width) _ 0 (λ i _. (c.type_inv.values i).fits);
   items = c.loop-v.invariant.0 ∙ ap (λ (l : List ℕ). vec_items c.args.bytes.now ++ flat_map (le width) l) (take_all _ _ c.loop-v-test.false);
   len = omega arith;
   capacity = c.loop-v.invariant.2;

@@ -13,17 +13,17 @@ in-turn c = omega (arith, end c, count_rises c.args.position (c.args.position + 
 inside : (c : After-first_at-to) → c.first_at-to.result ≤ length c.args.records.now
 inside c = omega (arith, end c, count_length (c.args.position + 1) c.args.records.now)
 
-pub offset-bounds-records-from : goal.offset-bounds-records-from
-offset-bounds-records-from c = let h = in-turn c in let k = inside c in search rules
+pub offset_bounds-records-from : goal.offset_bounds-records-from
+offset_bounds-records-from c = let h = in-turn c in let k = inside c in search rules
 
-pub slice-bounds-result-count : goal.slice-bounds-result-count
-slice-bounds-result-count c = in-turn c
+pub slice_bounds-result-count : goal.slice_bounds-result-count
+slice_bounds-result-count c = in-turn c
 
-pub slice-bounds-result-start : goal.slice-bounds-result-start
-slice-bounds-result-start c = in-turn c
+pub slice_bounds-result-start : goal.slice_bounds-result-start
+slice_bounds-result-start c = in-turn c
 
-pub slice-bounds-result-end : goal.slice-bounds-result-end
-slice-bounds-result-end c = inside c
+pub slice_bounds-result-end : goal.slice_bounds-result-end
+slice_bounds-result-end c = inside c
 
 pub returns : goal.returns
 returns c = at_part c.args.position c.first_at-from.result c.first_at-to.result c.args.records.now c.requires.sorted c.first_at-from.ensures

@@ -10,8 +10,8 @@ more c =
     let e = ap (λ (o : Option ℕ). unwrap_or o 0) (get_or_default c.args.counts.now c.loop-i.i None (Some 0) (search rules)) in
     omega (arith, before_next c.loop-i.i c.args.counts.now, c.loop-i.invariant, c.unwrap_or-start.ensures, e)
 
-pub overflow-add-start : goal.overflow-add-start
-overflow-add-start c = omega (arith, more c, before_rises (c.loop-i.i + 1) 32 c.args.counts.now (search rules), c.requires.few)
+pub overflow_add-start : goal.overflow_add-start
+overflow_add-start c = omega (arith, more c, before_rises (c.loop-i.i + 1) 32 c.args.counts.now (search rules), c.requires.few)
 
 pub loop-i-preserved : goal.loop-i-preserved
 loop-i-preserved c = more c

@@ -6,14 +6,14 @@ use Rattle.packed.specs.Coding.{puts_both}
 use Rattle.packed.specs.Growth.{Kept, kept, marks_few, commit_stamps, commit_kept, commit_added, commit_ok}
 use Rattle.packed.proofs.appending.PackedJournal.commit.Goals as goal
 
-pub overflow-cast-position : goal.overflow-cast-position
-overflow-cast-position c = search (rules, marks_few (vec_items c.args.self.now.bytes) c.args.self.now.whole)
+pub overflow_cast-position : goal.overflow_cast-position
+overflow_cast-position c = search (rules, marks_few (vec_items c.args.self.now.bytes) c.args.self.now.whole)
 
-pub overflow-add-self : goal.overflow-add-self
-overflow-add-self c = search (rules, marks_few (vec_items c.args.self.now.bytes) c.args.self.now.whole)
+pub overflow_add-self : goal.overflow_add-self
+overflow_add-self c = search (rules, marks_few (vec_items c.args.self.now.bytes) c.args.self.now.whole)
 
-pub invariant-of-self : goal.invariant-of-self
-invariant-of-self c =
+pub invariant_of-self : goal.invariant_of-self
+invariant_of-self c =
     let i = c.args.self.now in
     let was = vec_items i.bytes in
     let now = vec_items c.put_facts.new.bytes in
@@ -21,8 +21,18 @@ invariant-of-self c =
     let fs = c.args.facts.now in
     let k = kept i in
     let e = puts_both width was _ now (mark s ∷ []) (all_written i.shown fs) c.put_mark.ensures.puts c.put_facts.ensures.puts in
-    let n = subst (λ (m : ℕ). Kept now (i.shown + 1) (m + 1)) (sym c.from-2.ensures) (commit_kept was now i.shown i.next s fs k (search rules) e) in
-    (search rules, (search rules, (search rules, (n.whole, (n.encoded, (n.counted, (n.following, (search rules, (n.placed, (n.rising, tt))))))))))
+    let n = subst (λ (m : ℕ). Kept now (i.shown + 1) (m + 1)) (sym c.from-2.ensures) (commit_kept was now i.shown i.next s fs k (search rules) e) in record {
+      room = search rules;
+      bounded = search rules;
+      reserved = search rules;
+      whole = n.whole;
+      encoded = n.encoded;
+      counted = n.counted;
+      following = n.following;
+      last = search rules;
+      placed = n.placed;
+      rising = n.rising;
+    }
 
 pub returns : goal.returns
 returns c =

@@ -4,17 +4,27 @@ use Rattle.packed.specs.Meaning.{fact_cost, bytes_trace}
 use Rattle.packed.specs.Growth.{kept, marks_few, late_stamps, late_kept, late_added, late_ok}
 use Rattle.packed.proofs.appending.PackedJournal.late.Goals as goal
 
-pub overflow-cast-position : goal.overflow-cast-position
-overflow-cast-position c = search (rules, marks_few (vec_items c.args.self.now.bytes) c.args.self.now.whole)
+pub overflow_cast-position : goal.overflow_cast-position
+overflow_cast-position c = search (rules, marks_few (vec_items c.args.self.now.bytes) c.args.self.now.whole)
 
-pub invariant-of-self : goal.invariant-of-self
-invariant-of-self c =
+pub invariant_of-self : goal.invariant_of-self
+invariant_of-self c =
     let i = c.args.self.now in
     let was = vec_items i.bytes in
     let now = vec_items c.put_fact.new.bytes in
     let k = kept i in
-    let n = late_kept was now i.shown i.next c.args.position c.args.fact k (search rules) c.put_fact.ensures.puts in
-    (search rules, (search rules, (search rules, (n.whole, (n.encoded, (n.counted, (n.following, (i.last, (n.placed, (n.rising, tt))))))))))
+    let n = late_kept was now i.shown i.next c.args.position c.args.fact k (search rules) c.put_fact.ensures.puts in record {
+      room = search rules;
+      bounded = search rules;
+      reserved = search rules;
+      whole = n.whole;
+      encoded = n.encoded;
+      counted = n.counted;
+      following = n.following;
+      last = i.last;
+      placed = n.placed;
+      rising = n.rising;
+    }
 
 pub returns : goal.returns
 returns c =

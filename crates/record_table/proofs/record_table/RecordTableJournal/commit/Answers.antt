@@ -20,38 +20,26 @@ returns-then-free-facts c =
       keeps = tt;
     }
 
-pub invariant-of-self : goal.invariant-of-self
-invariant-of-self c =
+pub invariant_of-self : goal.invariant_of-self
+invariant_of-self c =
     let t = c.args.self.now in
     let rs = vec_items t.records in
     let k = c.shown-position.result in
     let fs = c.args.facts.now in
-    let at : k ≡ vec_len t.stamps = search rules in (
-      search rules,
-      (
-        search rules,
-        (
-          search rules,
-          (
-            search rules,
-            (
-              ap (λ (l : List Record). placed l (vec_len c.push_reserved.new.self)) c.append.ensures.items
-                  ∙ placed_append k (vec_len t.stamps) (vec_len c.push_reserved.new.self) rs fs t.placed (search rules) (search rules),
-              (
-                ap (sorted 0) c.append.ensures.items
-                    ∙ sorted_append k 0 rs fs t.sorted (subst (λ (n : ℕ). placed rs n ≡ true) (sym at) t.placed) (search rules),
-                (
-                  ap (λ (l : List ℕ). rising 0 l (c.from-2.result + 1)) c.push_reserved.ensures.items
-                      ∙ ap (λ (n : ℕ). rising 0 (vec_items t.stamps ++ (c.args.stamp ∷ [])) (n + 1)) c.from-2.ensures
-                      ∙ rising_more 0 t.next (vec_items t.stamps) c.args.stamp t.rising (search rules),
-                  (search rules, tt),
-                ),
-              ),
-            ),
-          ),
-        ),
-      ),
-    )
+    let at : k ≡ vec_len t.stamps = search rules in record {
+      room = search rules;
+      bounded = search rules;
+      stamps_reserved = search rules;
+      records_reserved = search rules;
+      placed = ap (λ (l : List Record). placed l (vec_len c.push_reserved.new.self)) c.append.ensures.items
+          ∙ placed_append k (vec_len t.stamps) (vec_len c.push_reserved.new.self) rs fs t.placed (search rules) (search rules);
+      sorted = ap (sorted 0) c.append.ensures.items
+          ∙ sorted_append k 0 rs fs t.sorted (subst (λ (n : ℕ). placed rs n ≡ true) (sym at) t.placed) (search rules);
+      rising = ap (λ (l : List ℕ). rising 0 l (c.from-2.result + 1)) c.push_reserved.ensures.items
+          ∙ ap (λ (n : ℕ). rising 0 (vec_items t.stamps ++ (c.args.stamp ∷ [])) (n + 1)) c.from-2.ensures
+          ∙ rising_more 0 t.next (vec_items t.stamps) c.args.stamp t.rising (search rules);
+      last = search rules;
+    }
 
 pub returns : goal.returns
 returns c =

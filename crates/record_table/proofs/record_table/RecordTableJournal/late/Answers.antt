@@ -5,30 +5,21 @@ use Rattle.record_table.proofs.Sorted.{sorted_insert, placed_insert}
 use Rattle.record_table.specs.Meaning.{late_taken, added_inside}
 use Rattle.record_table.proofs.record_table.RecordTableJournal.late.Goals as goal
 
-pub invariant-of-self : goal.invariant-of-self
-invariant-of-self c =
+pub invariant_of-self : goal.invariant_of-self
+invariant_of-self c =
     let t = c.args.self.now in
     let rs = vec_items t.records in
-    let k = c.args.position in (
-      search rules,
-      (
-        search rules,
-        (
-          search rules,
-          (
-            search rules,
-            (
-              ap (λ (l : List Record). placed l (vec_len t.stamps)) c.insert.ensures.items
-                  ∙ placed_insert k c.args.fact (vec_len t.stamps) (count_before (k + 1) rs) rs t.placed (search rules),
-              (
-                ap (sorted 0) c.insert.ensures.items ∙ sorted_insert k c.args.fact 0 rs t.sorted (search rules),
-                (t.rising, (search rules, tt)),
-              ),
-            ),
-          ),
-        ),
-      ),
-    )
+    let k = c.args.position in record {
+      room = search rules;
+      bounded = search rules;
+      stamps_reserved = search rules;
+      records_reserved = search rules;
+      placed = ap (λ (l : List Record). placed l (vec_len t.stamps)) c.insert.ensures.items
+          ∙ placed_insert k c.args.fact (vec_len t.stamps) (count_before (k + 1) rs) rs t.placed (search rules);
+      sorted = ap (sorted 0) c.insert.ensures.items ∙ sorted_insert k c.args.fact 0 rs t.sorted (search rules);
+      rising = t.rising;
+      last = search rules;
+    }
 
 pub returns : goal.returns
 returns c =

@@ -4,8 +4,8 @@ use Rattle.summary.proofs.Laid.{behind_set, kept-others, kept_here}
 use Rattle.summary.proofs.Tables.{inside_of, long}
 use Rattle.summary.proofs.row_table.RowTable.keep.Goals as goal
 
-pub overflow-add-start : goal.overflow-add-start
-overflow-add-start c = omega (arith, inside_of c.args.self.now c.args.node c.args.count c.requires.node c.requires.count, c.start_of-start.ensures, c.requires.room)
+pub overflow_add-start : goal.overflow_add-start
+overflow_add-start c = omega (arith, inside_of c.args.self.now c.args.node c.args.count c.requires.node c.requires.count, c.start_of-start.ensures, c.requires.room)
 
 pub insert-requires : goal.insert-requires
 insert-requires c = record {
@@ -13,21 +13,20 @@ insert-requires c = record {
   room = omega (arith, c.requires.room, c.args.self.now.reserved);
 }
 
-pub overflow-add-self : goal.overflow-add-self
-overflow-add-self c = omega (arith, inside_of c.args.self.now c.args.node c.args.count c.requires.node c.requires.count, c.requires.room)
+pub overflow_add-self : goal.overflow_add-self
+overflow_add-self c = omega (arith, inside_of c.args.self.now c.args.node c.args.count c.requires.node c.requires.count, c.requires.room)
 
-pub invariant-of-self : goal.invariant-of-self
-invariant-of-self c =
+pub invariant_of-self : goal.invariant_of-self
+invariant_of-self c =
     let t = c.args.self.now in
     let n = c.args.node in
     let k = c.args.count in
-    let l : n < length t.counts = omega (arith, c.requires.node, t.sized) in (
-      length-set t.counts n (Some (k + 1)) ∙ t.sized,
-      (
-        omega (arith, behind_set t.counts n (Some (k + 1)) 32 l c.requires.node, ap (λ (o : Option ℕ). unwrap_or o 0) c.requires.count, t.counted, c.insert.ensures.len),
-        (omega (arith, c.requires.room, c.insert.ensures.len), (omega (arith, t.reserved, c.insert.ensures.capacity), tt)),
-      ),
-    )
+    let l : n < length t.counts = omega (arith, c.requires.node, t.sized) in record {
+      sized = length-set t.counts n (Some (k + 1)) ∙ t.sized;
+      counted = omega (arith, behind_set t.counts n (Some (k + 1)) 32 l c.requires.node, ap (λ (o : Option ℕ). unwrap_or o 0) c.requires.count, t.counted, c.insert.ensures.len);
+      few = omega (arith, c.requires.room, c.insert.ensures.len);
+      reserved = omega (arith, t.reserved, c.insert.ensures.capacity);
+    }
 
 pub returns : goal.returns
 returns c =

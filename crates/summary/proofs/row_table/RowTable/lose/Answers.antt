@@ -7,17 +7,16 @@ use Rattle.summary.proofs.row_table.RowTable.lose.Goals as goal
 pub cut_out-requires : goal.cut_out-requires
 cut_out-requires c = omega (arith, inside_of c.args.self.now c.args.node c.args.count c.requires.node c.requires.count, c.start_of-start.ensures)
 
-pub invariant-of-self : goal.invariant-of-self
-invariant-of-self c =
+pub invariant_of-self : goal.invariant_of-self
+invariant_of-self c =
     let t = c.args.self.now in
     let n = c.args.node in
-    let l : n < length t.counts = omega (arith, c.requires.node, t.sized) in (
-      length-set t.counts n None ∙ t.sized,
-      (
-        omega (arith, behind_set t.counts n None 32 l c.requires.node, ap (λ (o : Option ℕ). unwrap_or o 0) c.requires.count, t.counted, c.cut_out.ensures.len),
-        (omega (arith, t.few, c.cut_out.ensures.len), (omega (arith, t.reserved, c.cut_out.ensures.capacity), tt)),
-      ),
-    )
+    let l : n < length t.counts = omega (arith, c.requires.node, t.sized) in record {
+      sized = length-set t.counts n None ∙ t.sized;
+      counted = omega (arith, behind_set t.counts n None 32 l c.requires.node, ap (λ (o : Option ℕ). unwrap_or o 0) c.requires.count, t.counted, c.cut_out.ensures.len);
+      few = omega (arith, t.few, c.cut_out.ensures.len);
+      reserved = omega (arith, t.reserved, c.cut_out.ensures.capacity);
+    }
 
 pub returns : goal.returns
 returns c =

@@ -259,5 +259,5 @@ pub(crate) fn walk<J: Journal>(
         finds(rt, j, position, query, after, Some(*tuple))?;
         after = Some(*tuple);
     }
-    finds(rt, j, position, query, after, None).note("the end of a walk")
+    finds(rt, j, position, query, after, None)
 }

@@ -3,6 +3,7 @@ use crate::calls::*;
 use facts::{Fact, FactSource, Tuple};
 use journal::{Journal, Stamp};
 use std::process::Abort;
+use std::test::Fail;
 use table::Value;
 
 const TOP: Value = 4294967295;
@@ -127,9 +128,7 @@ static WALKS: [Walk; 24] = [
 pub(crate) fn check_walks<J: Journal>(rt: &impl Abort, j: &J, base: usize) -> Result<(), Fail> {
     for (position, predicate, count, given, tuples) in &WALKS {
         let position = position.saturating_add(base);
-        walk(rt, j, position, &query(*predicate, *count, *given), tuples).note(format_args!(
-            "position {position}, predicate {predicate}, count {count}"
-        ))?;
+        walk(rt, j, position, &query(*predicate, *count, *given), tuples)?;
     }
     Ok(())
 }
@@ -280,8 +279,7 @@ fn keeps_questions_out<J: Journal>(rt: &impl Abort, j: &J) -> Result<(), Fail> {
             &query(predicate, count, [Some(1); 3]),
             18,
             usize::from(predicate),
-        )
-        .note(format_args!("predicate {predicate}, count {count}"))?;
+        )?;
     }
     for predicate in 0..32u8 {
         for count in 0..4u8 {
@@ -334,9 +332,7 @@ static CALCULATED: [(u8, [Option<Value>; 3], &[Tuple]); 10] = [
 /// What the calculated source answers, through a journal.
 fn check_pairs<J: Journal>(rt: &impl Abort, j: &J, position: usize) -> Result<(), Fail> {
     for (predicate, given, tuples) in &CALCULATED {
-        walk(rt, j, position, &query(*predicate, 2, *given), tuples).note(format_args!(
-            "predicate {predicate}"
-        ))?;
+        walk(rt, j, position, &query(*predicate, 2, *given), tuples)?;
     }
     let siblings = query(35, 2, [Some(300), None, None]);
     finds(rt, j, position, &siblings, None, Some([300, 256, 0]))?;
@@ -354,7 +350,7 @@ fn check_pairs<J: Journal>(rt: &impl Abort, j: &J, position: usize) -> Result<()
 /// The predicates 32 to 35 of the calculated source: the same at all positions, shown or not.
 fn check_calculated<J: Journal>(rt: &impl Abort, j: &J) -> Result<(), Fail> {
     for position in [0, 1, 2, 3, 1_000_000] {
-        check_pairs(rt, j, position).note(format_args!("position {position}"))?;
+        check_pairs(rt, j, position)?;
     }
     for predicate in [32, 34, 35u8] {
         assert!(rt; needs(j, predicate, 2, &[true, false]));
@@ -429,9 +425,9 @@ fn use_up<J: Journal>(rt: &impl Abort, j: &mut J, case: &Case) -> Result<(), Fai
 
 /// All calls, on a journal that shows nothing and has just the units for them.
 pub(crate) fn run_course<J: Journal>(rt: &impl Abort, j: &mut J, case: &Case) -> Result<(), Fail> {
-    grow(rt, j, case).note("while it grows")?;
+    grow(rt, j, case)?;
     check_absent(rt, j)?;
     check_between(rt, j)?;
-    keep_out(rt, j, case).note("after what is refused")?;
-    use_up(rt, j, case).note("when it is full")
+    keep_out(rt, j, case)?;
+    use_up(rt, j, case)
 }

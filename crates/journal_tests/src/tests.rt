@@ -6,6 +6,7 @@ use journal::{Joined, Journal, Session, Stamp};
 use packed::Packed;
 use record_table::RecordTable;
 use std::process::Abort;
+use std::test::Fail;
 
 /// The first stamp of the positions that are there before a session.
 const FORMER: Stamp = 10;
@@ -106,7 +107,7 @@ fn check_former<J: Journal>(
 fn check_left<J: Journal>(rt: &impl Abort, j: &J, case: &Case, base: usize) -> Result<(), Fail> {
     check_over(rt, j, case, base.saturating_add(4))?;
     assert_eq!(rt; j.stamp(base), Some(1000));
-    check_walks(rt, j, base).note("with the layer taken off")
+    check_walks(rt, j, base)
 }
 
 /// The course in a layer that is joined, and taken off again.

@@ -89,7 +89,7 @@ fn check_rows<K: Keeper>(
     for index in 0..count {
         let mut row = row_of(fill, node, index);
         row.last = row.last.saturating_add(times_longer(longer, node, index));
-        check_row(rt, k, node, index, &row).note(format_args!("index {index}"))?;
+        check_row(rt, k, node, index, &row)?;
     }
     Ok(())
 }
@@ -118,10 +118,10 @@ fn check_held<K: Keeper>(
 ) -> Result<(), Fail> {
     for node in 0..32 {
         let wanted = count_wanted(counts, node);
-        check_node(rt, k, fill, node, wanted, longer).note(format_args!("node {node}"))?;
+        check_node(rt, k, fill, node, wanted, longer)?;
     }
     for node in BEYOND {
-        check_node(rt, k, fill, node, Some(0), longer).note(format_args!("node {node}"))?;
+        check_node(rt, k, fill, node, Some(0), longer)?;
     }
     Ok(())
 }
@@ -149,7 +149,7 @@ fn check_stays<K: Keeper>(
 ) -> Result<(), Fail> {
     check_held(rt, k, fill, counts, longer)?;
     calls_beyond(k, fill, counts);
-    check_held(rt, k, fill, counts, longer).note("after calls that change nothing")
+    check_held(rt, k, fill, counts, longer)
 }
 
 /// Rows for the nodes 0, 15 and 31, in turns.
@@ -170,15 +170,15 @@ fn run_course<K: Keeper>(
     counts: &[Count],
     longer: &[Place],
 ) -> Result<(), Fail> {
-    check_stays(rt, k, fill, &[], &[]).note("empty")?;
+    check_stays(rt, k, fill, &[], &[])?;
     offers_in_turns(k, fill);
-    check_stays(rt, k, fill, counts, &[]).note("offered")?;
+    check_stays(rt, k, fill, counts, &[])?;
     for (node, index) in longer {
         k.lengthen(*node, *index);
     }
-    check_stays(rt, k, fill, counts, longer).note("lengthened")?;
+    check_stays(rt, k, fill, counts, longer)?;
     k.empty();
-    check_stays(rt, k, fill, &[], &[]).note("emptied")
+    check_stays(rt, k, fill, &[], &[])
 }
 
 /// First, middle and last rows, one of them twice.
@@ -200,8 +200,8 @@ fn both_through_the_same_calls(rt: HostRuntime) -> Result<(), Fail> {
     let kept = [(0, Some(4)), (15, Some(5)), (31, Some(4))];
     let lost = [(0, None), (15, None), (31, None)];
     for fill in [7, 8] {
-        run_course(&rt, &mut table, fill, &kept, &LONGER).note("table")?;
-        run_course(&rt, &mut decliner, fill, &lost, &LONGER).note("decliner")?;
+        run_course(&rt, &mut table, fill, &kept, &LONGER)?;
+        run_course(&rt, &mut decliner, fill, &lost, &LONGER)?;
     }
     Ok(())
 }
@@ -268,16 +268,16 @@ fn loses<K: Keeper>(rt: &impl Abort, k: &mut K, fill: Value) -> Result<(), Fail>
         (9, Some(0)),
         (31, Some(212)),
     ];
-    check_stays(rt, k, fill, &counts, &[]).note("full")?;
+    check_stays(rt, k, fill, &counts, &[])?;
     offers(k, fill, 9, 0, 1);
     counts[2] = (9, None);
-    check_stays(rt, k, fill, &counts, &[]).note("lost without rows")?;
+    check_stays(rt, k, fill, &counts, &[])?;
     offers(k, fill, 5, 200, 201);
     counts[1] = (5, None);
-    check_stays(rt, k, fill, &counts, &[]).note("lost with rows")?;
+    check_stays(rt, k, fill, &counts, &[])?;
     offers(k, fill, 5, 0, 3);
     offers(k, fill, 9, 0, 3);
-    check_stays(rt, k, fill, &counts, &[]).note("offered to lost nodes")
+    check_stays(rt, k, fill, &counts, &[])
 }
 
 /// The 200 places of node 5 are used again, and not one more. Then 212 are free, and of these one is used.
@@ -291,13 +291,13 @@ fn uses_again<K: Keeper>(rt: &impl Abort, k: &mut K, fill: Value) -> Result<(), 
         (9, None),
         (31, Some(212)),
     ];
-    check_stays(rt, k, fill, &counts, &[]).note("used again")?;
+    check_stays(rt, k, fill, &counts, &[])?;
     offers(k, fill, 31, 212, 213);
     counts[4] = (31, None);
-    check_stays(rt, k, fill, &counts, &[]).note("full again")?;
+    check_stays(rt, k, fill, &counts, &[])?;
     offers(k, fill, 7, 199, 200);
     counts[2] = (7, Some(200));
-    check_stays(rt, k, fill, &counts, &[]).note("free again")
+    check_stays(rt, k, fill, &counts, &[])
 }
 
 /// Node 20 takes the 211 places that are left. Then the first node is lost, which moves all other rows.
@@ -311,10 +311,10 @@ fn loses_first<K: Keeper>(rt: &impl Abort, k: &mut K, fill: Value) -> Result<(),
         (20, Some(211)),
         (31, None),
     ];
-    check_stays(rt, k, fill, &counts, &[]).note("full a third time")?;
+    check_stays(rt, k, fill, &counts, &[])?;
     offers(k, fill, 0, 101, 102);
     counts[0] = (0, None);
-    check_stays(rt, k, fill, &counts, &[]).note("first node lost")
+    check_stays(rt, k, fill, &counts, &[])
 }
 
 #[test]
@@ -326,7 +326,7 @@ fn table_fills_and_loses(rt: HostRuntime) -> Result<(), Fail> {
         uses_again(&rt, &mut table, fill)?;
         loses_first(&rt, &mut table, fill)?;
         table.empty();
-        check_stays(&rt, &mut table, fill, &[], &[]).note("emptied")?;
+        check_stays(&rt, &mut table, fill, &[], &[])?;
     }
     Ok(())
 }

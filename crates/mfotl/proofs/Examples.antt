@@ -1,6 +1,6 @@
 -- The worked examples, by one law.
 use Rattle.std.proofs.Common.{◌≡◌, ℕ, Bool, true, false, not, ◌&&◌, List, [], ◌∷◌, get_or, Decides, refl}
-use Rattle.std.specs.List.{AllByRecursion as All}
+use Rattle.std.specs.List.{AllByRecursion}
 use Rattle.std.proofs.lemmas.Bool.{and_parts, false≢true}
 use Rattle.mfotl.proofs.Evaluation.{quantifierless, evaluated}
 use Rattle.mfotl.specs.Examples.{Example, Says, Correct, examples, ExamplesStand}
@@ -31,7 +31,7 @@ tests : List Example → Bool
 tests [] = true
 tests (x ∷ xs) = test x && tests xs
 
-all_correct : (xs : List Example) → tests xs ≡ true → All Correct xs
+all_correct : (xs : List Example) → tests xs ≡ true → AllByRecursion Correct xs
 unfolding tests
 all_correct [] h = tt
 all_correct (x ∷ xs) h = let p = and_parts (test x) (tests xs) h in (correct x p.0, all_correct xs p.1)

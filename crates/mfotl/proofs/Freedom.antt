@@ -1,6 +1,6 @@
 -- Truth depends only on the values of the free variables.
 use Rattle.std.proofs.Common.{◌≡◌, ℕ, ◌+◌, ◌<◌, ◌≤◌, true, false, cond, not, List, [], ◌∷◌, map, length, sym, refl, ap, ◌∙◌, subst, inl, inr, arith}
-use Rattle.std.specs.List.{AllByRecursion as All}
+use Rattle.std.specs.List.{AllByRecursion}
 use Rattle.std.proofs.lemmas.Bool.{or_left, or_right, and_from, cases_Bool, lt-ltb, eq-eqb}
 use Rattle.sets.specs.Sets.{NumberSet, ◌∪◌, ◌∖◌, single, below}
 use Rattle.table.specs.declared.Term.{Term}
@@ -31,7 +31,7 @@ same_value : (a : ℕ) (t : Term) (η θ : Valuation) → a < 3 → InRange t �
 same_value a (Variable v) η θ h l e = here a v η θ h l e
 same_value a (Constant c) η θ h l e = refl
 
-same_values : (a : ℕ) (ts : List Term) (η θ : Valuation) → a + length ts ≤ 3 → All InRange ts → ((w : ℕ) → variables_at (below 3) a ts w ≡ true → θ w ≡ η w) → map (value_of η) ts ≡ map (value_of θ) ts
+same_values : (a : ℕ) (ts : List Term) (η θ : Valuation) → a + length ts ≤ 3 → AllByRecursion InRange ts → ((w : ℕ) → variables_at (below 3) a ts w ≡ true → θ w ≡ η w) → map (value_of η) ts ≡ map (value_of θ) ts
 same_values a [] η θ h r e = refl
 same_values a (t ∷ ts) η θ h (r, rs) e =
     λ i. same_value a t η θ (omega arith) r (λ w k. e w (left (variable_in (below 3 a) t) (variables_at (below 3) (a + 1) ts) w k)) i

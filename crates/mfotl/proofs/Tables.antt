@@ -1,6 +1,6 @@
 -- The formulas of a table that keeps the form rules are well formed.
 use Rattle.std.proofs.Common.{◌≡◌, ℕ, zero, suc, ◌<◌, true, false, ◌||◌, ltb, List, [], ◌∷◌, length, is_some, Some, None, Option, sym, refl, subst, arith, length-take}
-use Rattle.std.specs.List.{AllByRecursion as All}
+use Rattle.std.specs.List.{AllByRecursion}
 use Rattle.std.proofs.lemmas.Bool.{ltb-false, or_parts, false≢true}
 use Rattle.table.specs.declared.Node.{Node}
 use Rattle.table.specs.declared.Node.TheVariants.{True, False, Atom, And, Or, Exists, Forall, Prev, Once, Hist, Next, Event, Always, Since, Until}
@@ -16,7 +16,7 @@ in_range : (t : Term) → term_over t ≡ false → InRange t
 in_range (Variable v) h = omega (arith, ltb-false 7 v h)
 in_range (Constant c) h = tt
 
-all_in_range : (ts : List Term) → some term_over ts ≡ false → All InRange ts
+all_in_range : (ts : List Term) → some term_over ts ≡ false → AllByRecursion InRange ts
 all_in_range [] h = tt
 all_in_range (t ∷ ts) h = let p = or_parts (term_over t) (some term_over ts) h in (in_range t p.0, all_in_range ts p.1)
 
@@ -25,7 +25,7 @@ ended lo None h = absurd (false≢true (sym h))
 ended lo (Some u) h = refl
 
 module _ (ns : List Node) where
-  node : (n : ℕ) (x : Node) → over_limit x ≡ false → bad_interval x ≡ false → All (λ c. WellFormed (formula_at ns c)) (children x) → WellFormed (formula_of (formulas ns) n x)
+  node : (n : ℕ) (x : Node) → over_limit x ≡ false → bad_interval x ≡ false → AllByRecursion (λ c. WellFormed (formula_at ns c)) (children x) → WellFormed (formula_of (formulas ns) n x)
   node n True o b w = tt
   node n False o b w = tt
   node n (Atom p ts) o b w =
@@ -44,7 +44,7 @@ module _ (ns : List Node) where
   node n (Since i l r) o b (wl, (wr, _)) = (wl, wr)
   node n (Until i l r) o b (wl, (wr, _)) = (ended i.lo i.hi b, wl, wr)
 
-  all_well : (n : ℕ) (cs : List ℕ) → ((c : ℕ) → c < n → WellFormed (formula_at ns c)) → All (λ c. c < n) cs → All (λ c. WellFormed (formula_at ns c)) cs
+  all_well : (n : ℕ) (cs : List ℕ) → ((c : ℕ) → c < n → WellFormed (formula_at ns c)) → AllByRecursion (λ c. c < n) cs → AllByRecursion (λ c. WellFormed (formula_at ns c)) cs
   all_well n [] f h = tt
   all_well n (c ∷ cs) f (h, hs) = (f c h, all_well n cs f hs)
 

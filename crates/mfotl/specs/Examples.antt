@@ -1,6 +1,6 @@
 -- Worked examples of truth, as data: a trace, a formula, values for the variables, a position, and whether it is true there.
 use Rattle.std.specs.Prelude.{◌≡◌, ℕ, ◌+◌, ◌≤◌, Bool, true, false, ◌&&◌, ◌||◌, List, [], ◌∷◌, Some, None, ◌==◌, slice_index}
-use Rattle.std.specs.List.{AllByRecursion as All}
+use Rattle.std.specs.List.{AllByRecursion}
 use Rattle.table.specs.declared.Interval.{Interval}
 use Rattle.table.specs.declared.Term.TheVariants.{Variable, Constant}
 use Rattle.table.specs.Formula.{Formula, verum, falsum, atom, and, or, exists, forall, prev, once, hist, next, event, always, since, until}
@@ -118,7 +118,7 @@ examples =
     ∷ []
 
 abbrev pub ExamplesStand : Type 0
-ExamplesStand = All Correct examples
+ExamplesStand = AllByRecursion Correct examples
 
 -- forall v0 (p0(v0) to event[0,60] p1(v0))
 abbrev pub answered : Formula

@@ -1,6 +1,6 @@
 -- What truth depends on.
 use Rattle.std.specs.Prelude.{◌≡◌, ℕ, ◌+◌, ◌-◌, ◌<◌, ◌≤◌, true, List, length, is_some, slice_index}
-use Rattle.std.specs.List.{AllByRecursion as All}
+use Rattle.std.specs.List.{AllByRecursion}
 use Rattle.table.specs.declared.Term.{Term}
 use Rattle.table.specs.declared.Term.TheVariants.{Variable, Constant}
 use Rattle.table.specs.Formula.{Formula, verum, falsum, atom, and, or, exists, forall, prev, once, hist, next, event, always, since, until, free, formula_at}
@@ -26,7 +26,7 @@ InRange (Constant c) = Unit {0}
 abbrev pub WellFormed : Formula → Type 0
 WellFormed (verum n) = Unit {0}
 WellFormed (falsum n) = Unit {0}
-WellFormed (atom n p ts) = (length ts ≤ 3) × All InRange ts
+WellFormed (atom n p ts) = (length ts ≤ 3) × AllByRecursion InRange ts
 WellFormed (and n l r) = WellFormed l × WellFormed r
 WellFormed (or n l r) = WellFormed l × WellFormed r
 WellFormed (exists n vs b) = WellFormed b

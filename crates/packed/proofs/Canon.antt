@@ -1,6 +1,6 @@
 -- Whole bytes are the encoding of their items.
 use Rattle.std.proofs.Common.{◌≡◌, ℕ, zero, suc, ◌+◌, ◌*◌, ◌/◌, ◌%◌, ◌<◌, ◌≤◌, Bool, true, false, cond, eqb, List, [], ◌∷◌, ◌++◌, length, drop, sym, refl, ap, ◌∙◌, append_assoc, mul-suc, arith, length-drop}
-use Rattle.std.specs.List.{flat_map, AllByRecursion as All}
+use Rattle.std.specs.List.{flat_map, AllByRecursion}
 use Rattle.std.proofs.ByRecursion.{All-drop}
 use Rattle.std.proofs.lemmas.List.{drop-drop}
 use Rattle.std.proofs.lemmas.Bool.{and_parts, eqb-true}
@@ -11,7 +11,7 @@ use Rattle.packed.specs.Coding.{whole_skip}
 omega_eq : (W k : ℕ) → W + W * k ≡ W * suc k
 omega_eq W k = omega (arith, mul-suc W k)
 
-le_num : (w : ℕ) (bs : List ℕ) → All (λ b. b < 256) bs → w ≤ length bs → le w (num w bs) ++ drop w bs ≡ bs
+le_num : (w : ℕ) (bs : List ℕ) → AllByRecursion (λ b. b < 256) bs → w ≤ length bs → le w (num w bs) ++ drop w bs ≡ bs
 unfolding le num
 le_num zero bs a h = refl
 le_num (suc w) [] a h = absurd (omega arith)
@@ -21,7 +21,7 @@ le_num (suc w) (b ∷ bs) (a, r) h =
     let d : (b + 256 * n) / 256 ≡ n = omega arith in
     rw (m, d) (ap (λ (l : List ℕ). b ∷ l) (le_num w bs r (omega arith)))
 
-les_nums : (W k : ℕ) (bs : List ℕ) → All (λ b. b < 256) bs → W * k ≤ length bs → flat_map (le W) (nums W k bs) ++ drop (W * k) bs ≡ bs
+les_nums : (W k : ℕ) (bs : List ℕ) → AllByRecursion (λ b. b < 256) bs → W * k ≤ length bs → flat_map (le W) (nums W k bs) ++ drop (W * k) bs ≡ bs
 unfolding nums
 les_nums W zero bs a h = let e : W * 0 ≡ 0 = omega arith in rw e refl
 les_nums W (suc k) bs a h =
@@ -34,7 +34,7 @@ les_nums W (suc k) bs a h =
     ∙ le_num W bs a (omega arith)
 
 -- the bytes of one item, and what follows them
-module _ (W b : ℕ) (bs : List ℕ) (a : All (λ b. b < 256) bs) where
+module _ (W b : ℕ) (bs : List ℕ) (a : AllByRecursion (λ b. b < 256) bs) where
   one : (t : Bool) → eqb b 255 ≡ t → headed b ≡ true → cond t 4 (2 + W * (b / 32)) ≤ length bs
       → encode_item W (cond t (mark (num 4 bs)) (fact (b % 32) (num 2 bs) (nums W (b / 32) (drop 2 bs)))) ++ drop (cond t 4 (2 + W * (b / 32))) bs ≡ b ∷ bs
   one true e h l = ap (λ (n : ℕ). n ∷ (le 4 (num 4 bs) ++ drop 4 bs)) (sym (eqb-true b 255 e)) ∙ ap (λ (t : List ℕ). b ∷ t) (le_num 4 bs a l)
@@ -52,7 +52,7 @@ module _ (W b : ℕ) (bs : List ℕ) (a : All (λ b. b < 256) bs) where
   pub item_is : headed b ≡ true → more W b ≤ length bs → encode_item W (item_at W b bs) ++ drop (more W b) bs ≡ b ∷ bs
   item_is h l = one (eqb b 255) refl h l
 
-from : (W n k : ℕ) (bs : List ℕ) → length bs ≤ n → All (λ b. b < 256) bs → whole W k bs ≡ true → encode W (items W k bs) ≡ drop k bs
+from : (W n k : ℕ) (bs : List ℕ) → length bs ≤ n → AllByRecursion (λ b. b < 256) bs → whole W k bs ≡ true → encode W (items W k bs) ≡ drop k bs
 unfolding whole items
 from W n zero [] m a h = refl
 from W n (suc k) [] m a h = refl

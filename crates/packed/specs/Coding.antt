@@ -1,6 +1,6 @@
 use Rattle.std.specs.Prelude.{◌≡◌, ℕ, zero, suc, ◌+◌, ◌*◌, ◌/◌, ◌%◌, ◌^◌, ◌<◌, ◌≤◌, Bool, true, false, cond, ◌||◌, List, [], ◌∷◌, ◌++◌, length, drop, ◌==◌, nat_eq, nat_lt, refl}
 use Rattle.std.proofs.Common.{sym, ap, ◌∙◌, append_assoc, append-nil, arith, length-append, length-drop}
-use Rattle.std.specs.List.{flat_map, AllByRecursion as All}
+use Rattle.std.specs.List.{flat_map, AllByRecursion}
 use Rattle.std.proofs.lemmas.List.{drop_at, drop-append-le}
 use Rattle.std.proofs.lemmas.Bool.{and_parts, and_from, or_right, ne_eqb, lt-ltb, false≢true}
 use Rattle.packed.specs.Format.{Item, mark, fact, le, num, nums, encode_item, encode, Good, more, item_at, items, whole, items_of, Whole, Puts, RoundTrip}
@@ -70,7 +70,7 @@ items_head W b bs e = ap (λ (l : List Item). item_at W b bs ∷ l) (ap (λ (k :
 num_le_nil : (w n : ℕ) → n < 256 ^ w → num w (le w n) ≡ n
 num_le_nil w n h = ap (num w) (sym (append-nil (le w n))) ∙ num_le w n [] h
 
-nums_les_nil : (W : ℕ) (vs : List ℕ) → All (λ v. v < 256 ^ W) vs → nums W (length vs) (flat_map (le W) vs) ≡ vs
+nums_les_nil : (W : ℕ) (vs : List ℕ) → AllByRecursion (λ v. v < 256 ^ W) vs → nums W (length vs) (flat_map (le W) vs) ≡ vs
 nums_les_nil W vs h = ap (nums W (length vs)) (sym (append-nil (flat_map (le W) vs))) ∙ nums_les W vs [] h
 
 more_fact : (W b n : ℕ) → (b == 255) ≡ false → b / 32 ≡ n → more W b ≡ 2 + W * n
@@ -99,12 +99,12 @@ items_item W (fact q p vs) (a, b, c, d) =
     ∙ ap (λ (x : Item). x ∷ []) (item_fact W h (length vs) bs ne dv
     ∙ rw (md, num_le 2 p (flat_map (le W) vs) b, drop_at (le 2 p) (flat_map (le W) vs) 2 (length_le 2 p), nums_les_nil W vs d) refl)
 
-pub whole_encode : (W : ℕ) (xs : List Item) → All (Good W) xs → Whole W (encode W xs)
+pub whole_encode : (W : ℕ) (xs : List Item) → AllByRecursion (Good W) xs → Whole W (encode W xs)
 unfolding whole
 whole_encode W [] g = refl
 whole_encode W (x ∷ xs) (g, gs) = whole_append W 0 (encode_item W x) (encode W xs) (whole_item W x g) ∙ whole_encode W xs gs
 
-pub items_encode : (W : ℕ) (xs : List Item) → All (Good W) xs → items_of W (encode W xs) ≡ xs
+pub items_encode : (W : ℕ) (xs : List Item) → AllByRecursion (Good W) xs → items_of W (encode W xs) ≡ xs
 unfolding items
 items_encode W [] g = refl
 items_encode W (x ∷ xs) (g, gs) =

@@ -1,7 +1,7 @@
 use Rattle.std.specs.Prelude.{◌≡◌, ℕ, zero, suc, ◌+◌, ◌-◌, ◌*◌, ◌/◌, ◌%◌, ◌^◌, ◌<◌, ◌≤◌, List, [], ◌∷◌, ◌++◌, length, drop, slice_index_or, refl}
 use Rattle.std.proofs.Common.{ap, ◌∙◌, append_assoc, arith, pow-suc, mul-suc, length-append, length-drop}
 use Rattle.std.proofs.Math.Nat.{pow-le-pow_right}
-use Rattle.std.specs.List.{flat_map, AllByRecursion as All}
+use Rattle.std.specs.List.{flat_map, AllByRecursion}
 use Rattle.std.proofs.lemmas.List.{drop_at, drop-append-le, drop_more}
 use Rattle.packed.specs.Format.{le, num, nums}
 
@@ -27,7 +27,7 @@ num_front zero xs ys h = refl
 num_front (suc w) [] ys h = omega arith
 num_front (suc w) (x ∷ xs) ys h = ap (λ (n : ℕ). x + 256 * n) (num_front w xs ys (omega arith))
 
-pub nums_les : (W : ℕ) (vs bs : List ℕ) → All (λ v. v < 256 ^ W) vs → nums W (length vs) (flat_map (le W) vs ++ bs) ≡ vs
+pub nums_les : (W : ℕ) (vs bs : List ℕ) → AllByRecursion (λ v. v < 256 ^ W) vs → nums W (length vs) (flat_map (le W) vs ++ bs) ≡ vs
 unfolding nums
 nums_les W [] bs h = refl
 nums_les W (v ∷ vs) bs (h, hs) =

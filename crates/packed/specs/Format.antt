@@ -1,7 +1,7 @@
 -- The packed format over the width W of a value: a mark is the byte 255 and the stamp in four bytes; a fact is one byte,
 -- predicate and 32 times the count, then the position in two bytes and each value in W bytes. The low byte comes first.
 use Rattle.std.specs.Prelude.{◌≡◌, ℕ, zero, suc, ◌+◌, ◌*◌, ◌/◌, ◌%◌, ◌^◌, ◌<◌, ◌≤◌, Bool, true, false, cond, ◌&&◌, ◌||◌, List, [], ◌∷◌, ◌++◌, length, drop, Some, None, Option, ◌==◌, nat_lt}
-use Rattle.std.specs.List.{flat_map, AllByRecursion as All}
+use Rattle.std.specs.List.{flat_map, AllByRecursion}
 
 -- what the bytes write one after the other: the mark of a stamp, or a fact of a predicate at a position with its arguments
 pub data Item : Type 0 where
@@ -36,7 +36,7 @@ encode W xs = flat_map (encode_item W) xs
 -- what the format can write
 abbrev pub Good : ℕ → Item → Type 0
 Good W (mark s) = s < 256 ^ 4
-Good W (fact q p vs) = (q < 32) × (p < 256 ^ 2) × (length vs ≤ 3) × All (λ v. v < 256 ^ W) vs
+Good W (fact q p vs) = (q < 32) × (p < 256 ^ 2) × (length vs ≤ 3) × AllByRecursion (λ v. v < 256 ^ W) vs
 
 -- a byte that heads an item
 abbrev pub headed : ℕ → Bool
@@ -83,8 +83,8 @@ pub record Puts (W : ℕ) (was now : List ℕ) (xs : List Item) : Type 0 where
 
 -- what is written is read again
 abbrev pub RoundTrip : Type 0
-RoundTrip = (W : ℕ) (xs : List Item) → All (Good W) xs → decode W (encode W xs) ≡ Some xs
+RoundTrip = (W : ℕ) (xs : List Item) → AllByRecursion (Good W) xs → decode W (encode W xs) ≡ Some xs
 
 -- whole bytes are the encoding of their items
 abbrev pub Canonical : Type 0
-Canonical = (W : ℕ) (bs : List ℕ) → All (λ b. b < 256) bs → Whole W bs → encode W (items_of W bs) ≡ bs
+Canonical = (W : ℕ) (bs : List ℕ) → AllByRecursion (λ b. b < 256) bs → Whole W bs → encode W (items_of W bs) ≡ bs

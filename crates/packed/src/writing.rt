@@ -1,6 +1,6 @@
 //! Marks and facts, written in bytes.
 ghost use Rattle.std.specs.Prelude.{◌≡◌, ◌+◌, ◌*◌, ◌^◌, ◌<◌, ◌≤◌, true, [], ◌∷◌, ◌++◌, length, Ok, vec_len, vec_capacity};
-ghost use Rattle.std.specs.List.{flat_map, AllByRecursion as All};
+ghost use Rattle.std.specs.List.{flat_map, AllByRecursion};
 ghost use Rattle.facts.specs.Tuples.{recordable};
 ghost use Rattle.journal.specs.Trace.{costs, sound_from};
 ghost use Rattle.packed.specs.Format.{mark, le, Whole, Puts};
@@ -15,7 +15,7 @@ use table::Value;
 /// Appends values.
 fn put_values(bytes: &mut Vec<u8>, values: &[Value])
     requires { vec_len bytes.old + width * length values.now ≤ vec_capacity bytes.old }
-    ensures fits { All (λ v. v < 256 ^ width) values.now }
+    ensures fits { AllByRecursion (λ v. v < 256 ^ width) values.now }
     ensures items { bytes.new.items ≡ bytes.old.items ++ flat_map (le width) values.now }
     ensures len { vec_len bytes.new ≡ vec_len bytes.old + width * length values.now }
     ensures capacity { vec_capacity bytes.new ≡ vec_capacity bytes.old }

@@ -1,6 +1,6 @@
 -- A node that is once a child has one parent, which its link names.
 use Rattle.std.proofs.Common.{◌≡◌, ℕ, zero, suc, ◌+◌, ◌-◌, ◌<◌, ◌≤◌, Bool, false, cond, not, eqb, ltb, ◌≢◌, List, [], ◌∷◌, length, drop, sym, refl, ap, ◌∙◌, inl, inr, arith}
-use Rattle.std.specs.List.{flat_map, AllByRecursion as All}
+use Rattle.std.specs.List.{flat_map, AllByRecursion}
 use Rattle.std.proofs.ByRecursion.{All-weaker}
 use Rattle.std.proofs.lemmas.List.{at_drop_more, at_drop_all}
 use Rattle.std.proofs.lemmas.Bool.{eq-eqb, ne_eqb, cond-true, cond-false, not-false, eqb-true, lt-ltb, and_cases, both_ways}
@@ -30,24 +30,24 @@ module _ (ns : List Node) (k i : ℕ) (inv : parent_from i (drop i ns) k ≡ par
   scan_none h = sym (at_drop_all (λ (l : List Node). parent_from i l k) ns i h) ∙ inv
 
 -- what is counted is there, and what is there is counted
-counted : (xs : List ℕ) → All (λ c. 0 < times c xs) xs
+counted : (xs : List ℕ) → AllByRecursion (λ c. 0 < times c xs) xs
 counted [] = tt
 counted (x ∷ xs) =
     (omega (arith, ap (λ (b : Bool). cond {A = ℕ} b 1 0) (eq-eqb x x refl)), All-weaker (λ c. 0 < times c xs) (λ c. 0 < times c (x ∷ xs)) (λ c h. omega arith) xs (counted xs))
 
-uncounted : (k : ℕ) (xs : List ℕ) → times k xs ≡ 0 → All (λ y. k ≢ y) xs
+uncounted : (k : ℕ) (xs : List ℕ) → times k xs ≡ 0 → AllByRecursion (λ y. k ≢ y) xs
 uncounted k [] e = tt
 uncounted k (x ∷ xs) e =
     ((λ d. absurd (omega (arith, ap (λ (b : Bool). cond {A = ℕ} b 1 0) (eq-eqb x k (sym d))))), uncounted k xs (omega arith))
 
-distinct : (xs : List ℕ) → All (λ c. times c xs ≤ 1) xs → Distinct xs
+distinct : (xs : List ℕ) → AllByRecursion (λ c. times c xs ≤ 1) xs → Distinct xs
 distinct [] h = tt
 distinct (x ∷ xs) h = (
   uncounted x xs (omega (arith, h.0, ap (λ (b : Bool). cond {A = ℕ} b 1 0) (eq-eqb x x refl))),
   distinct xs (All-weaker (λ c. times c (x ∷ xs) ≤ 1) (λ c. times c xs ≤ 1) (λ c l. omega arith) xs h.1),
 )
 
-none_below : (k : ℕ) (xs : List ℕ) → All (λ c. c < k) xs → times k xs ≡ 0
+none_below : (k : ℕ) (xs : List ℕ) → AllByRecursion (λ c. c < k) xs → times k xs ≡ 0
 none_below k [] h = refl
 none_below k (x ∷ xs) h = omega (arith, ap (λ (b : Bool). cond {A = ℕ} b 1 0) (ne_eqb x k (λ e. omega (arith, h.0))), none_below k xs h.1)
 
@@ -80,7 +80,7 @@ once_child ns k h e = elim (and_cases (ltb (k + 1) (length ns)) (not (eqb (paren
   | inr n ↦ eqb-true (parent_count ns k) 1 (not-false (eqb (parent_count ns k) 1) n)
 ]
 
-with_count : (n : ℕ) (all xs : List ℕ) → All (λ c. c < n) xs → All (λ c. 0 < times c all) xs → All (λ c. (c < n) × (0 < times c all)) xs
+with_count : (n : ℕ) (all xs : List ℕ) → AllByRecursion (λ c. c < n) xs → AllByRecursion (λ c. 0 < times c all) xs → AllByRecursion (λ c. (c < n) × (0 < times c all)) xs
 with_count n all [] p q = tt
 with_count n all (x ∷ xs) p q = ((p.0, q.0), with_count n all xs p.1 q.1)
 
@@ -90,7 +90,7 @@ parent_past D ns k f h =
 
 pub linked : (D : Declarations) (ns : List Node) → Formed D ns → Linked ns (parent_from 0 ns)
 linked D ns f =
-    let under : (n : ℕ) → n < length ns → All (λ c. (c < n) × (0 < times c (children (node_at ns n)))) (children (node_at ns n)) =
+    let under : (n : ℕ) → n < length ns → AllByRecursion (λ c. (c < n) × (0 < times c (children (node_at ns n)))) (children (node_at ns n)) =
     λ n l. with_count n (children (node_at ns n)) (children (node_at ns n)) (children_below n (node_at ns n) (f.descends n l)) (counted (children (node_at ns n))) in
     let alone : (n c : ℕ) → n < length ns → c < n → parent_count ns c ≡ 1 = λ n c l d. once_child ns c (omega arith) (f.one_parent c (omega arith)) in
     record {

@@ -1,6 +1,6 @@
 -- A table is accepted exactly if it meets no refusal.
 use Rattle.std.proofs.Common.{◌≡◌, ℕ, true, false, List, is_some, is_ok, Some, None, Ok, Err, Decides, Option, Result, sym, refl, ap, ◌∙◌, arith}
-use Rattle.std.specs.Option.{option_or as or_else}
+use Rattle.std.specs.Option.{option_or}
 use Rattle.refusal.specs.declared.Cause.TheVariants.{NotSearchable}
 use Rattle.refusal.specs.Causes.{refusal_at}
 use Rattle.refusal.specs.declared.Refusal.{Refusal}
@@ -18,11 +18,11 @@ use Rattle.policy.proofs.Walked.{walk_tells}
 never : (x : Refusal) → Some x ≡ None → ⊥
 never x e = let z : ◌≡◌ {A = ℕ} 0 1 = cc in omega arith
 
-or_left : (a b : Option Refusal) → or_else a b ≡ None → a ≡ None
+or_left : (a b : Option Refusal) → option_or a b ≡ None → a ≡ None
 or_left None b e = refl
 or_left (Some x) b e = e
 
-or_right : (a b : Option Refusal) → or_else a b ≡ None → b ≡ None
+or_right : (a b : Option Refusal) → option_or a b ≡ None → b ≡ None
 or_right None b e = e
 or_right (Some x) b e = absurd (never x e)
 
@@ -43,7 +43,7 @@ module _ (D : Declarations) (ns : List Node) where
 
   pub unrefused : Accepted D ns → refusal_of D ns ≡ None
   unrefused a =
-      ap (λ (o : Option Refusal). or_else o (of_walk rootWalk)) ((refused_unless_formed D ns).0 a.formed)
+      ap (λ (o : Option Refusal). option_or o (of_walk rootWalk)) ((refused_unless_formed D ns).0 a.formed)
       ∙ ok_walk rootWalk (walk_tells Search D (formula_at ns (root_of ns)) none ∙ a.moded)
 
   accepted : refusal_of D ns ≡ None → Accepted D ns
@@ -54,11 +54,11 @@ module _ (D : Declarations) (ns : List Node) where
 
   -- the two refusals of the check, and its acceptance
   pub form_refusal : (x : Refusal) → Some x ≡ first (form_questions D ns) → Some x ≡ refusal_of D ns
-  form_refusal x e = ap (λ (o : Option Refusal). or_else o (of_walk rootWalk)) e
+  form_refusal x e = ap (λ (o : Option Refusal). option_or o (of_walk rootWalk)) e
 
   pub mode_refusal : (n : ℕ) → None ≡ first (form_questions D ns) → Err n ≡ rootWalk → Some (refusal_at NotSearchable n) ≡ refusal_of D ns
   mode_refusal n e w =
-      ap of_walk w ∙ ap (λ (o : Option Refusal). or_else o (of_walk rootWalk)) e
+      ap of_walk w ∙ ap (λ (o : Option Refusal). option_or o (of_walk rootWalk)) e
 
   pub refused : (x : Refusal) → Some x ≡ refusal_of D ns → Decides false (Accepted D ns)
   refused x e = (λ b. absurd (let z : ◌≡◌ {A = ℕ} 0 1 = cc in omega arith), λ a. absurd (never x (e ∙ unrefused a)))

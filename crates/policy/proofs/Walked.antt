@@ -1,6 +1,6 @@
 -- The walk and the rules of modes agree.
 use Rattle.std.proofs.Common.{◌≡◌, ℕ, ◌<◌, Bool, true, false, ◌&&◌, List, length, is_ok, Ok, Err, Result, sym, refl, ap, ◌∙◌}
-use Rattle.std.specs.Result.{result_and as and_then}
+use Rattle.std.specs.Result.{result_and}
 use Rattle.sets.specs.Sets.{NumberSet, none, ◌∪◌, ◌⊆◌}
 use Rattle.table.specs.Formula.{Formula, verum, falsum, atom, and, or, exists, forall, prev, once, hist, next, event, always, since, until, free, formula_of, formulas, formula_at}
 use Rattle.table.specs.declared.node.Node.{Node}
@@ -11,7 +11,7 @@ use Rattle.table.specs.Form.{Declarations, node_at}
 use Rattle.policy.specs.declared.modes.Mode.TheVariants.{Build}
 use Rattle.policy.specs.Modes.{moded, if_only, searching, start_of, same_outside, binds_all, WalkTells, needed, over_past, cached}
 
-both : (r s : Result (Unit {0}) ℕ) (a b : Bool) → is_ok r ≡ a → is_ok s ≡ b → is_ok (and_then r s) ≡ (a && b)
+both : (r s : Result (Unit {0}) ℕ) (a b : Bool) → is_ok r ≡ a → is_ok s ≡ b → is_ok (result_and r s) ≡ (a && b)
 both (Ok _) s a b p q = ap (λ (c : Bool). c && is_ok s) p ∙ ap (λ (c : Bool). a && c) q
 both (Err n) s a b p q = ap (λ (c : Bool). c && b) p
 

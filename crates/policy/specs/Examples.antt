@@ -1,6 +1,6 @@
 -- Worked examples of modes, caching and waits: what the definitions give, beside what they should.
 use Rattle.std.specs.Prelude.{◌≡◌, ℕ, Bool, true, false, List, [], ◌∷◌, Some, None, ◌==◌}
-use Rattle.std.specs.List.{AllByRecursion as All}
+use Rattle.std.specs.List.{AllByRecursion}
 use Rattle.table.specs.declared.node.Interval.{Interval}
 use Rattle.table.specs.declared.node.Term.TheVariants.{Variable}
 use Rattle.sets.specs.Sets.{none, single}
@@ -45,4 +45,4 @@ examples =
     ∷ []
 
 abbrev pub ExamplesHold : Type 0
-ExamplesHold = All (λ e. e.gives ≡ e.should) examples
+ExamplesHold = AllByRecursion (λ e. e.gives ≡ e.should) examples

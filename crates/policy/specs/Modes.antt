@@ -1,6 +1,6 @@
 -- Modes: from which known variables a formula can be searched, and which operators can keep rows.
 use Rattle.std.specs.Prelude.{◌≡◌, ℕ, Bool, true, false, cond, ◌&&◌, List, is_ok, Some, None, Ok, Err, Option, Result, slice_index_or}
-use Rattle.std.specs.Result.{result_and as and_then}
+use Rattle.std.specs.Result.{result_and}
 use Rattle.table.specs.declared.node.Declaration.{Declaration}
 use Rattle.table.specs.declared.node.Term.{Term}
 use Rattle.sets.specs.Sets.{NumberSet, members, none, ◌∪◌, ◌∖◌, ◌⊆◌}
@@ -91,22 +91,22 @@ abbrev pub walk : Mode → Declarations → Formula → NumberSet → Result (Un
 walk m D (verum n) K = Ok tt
 walk m D (falsum n) K = Ok tt
 walk m D (atom n p ts) K = if_only (needed D p ts ⊆ K) n
-walk m D (and n l r) K = and_then (walk m D l K) (walk m D r (K ∪ free l))
-walk m D (or n l r) K = and_then (walk m D l K) (and_then (walk m D r K) (if_only (same_outside K (free l) (free r)) n))
-walk m D (exists n vs b) K = and_then (walk m D b K) (if_only (vs ⊆ free b) n)
-walk m D (forall n vs l r) K = and_then (walk m D l K) (and_then (walk m D r (K ∪ vs)) (if_only (binds_all K vs (free l) (free r)) n))
+walk m D (and n l r) K = result_and (walk m D l K) (walk m D r (K ∪ free l))
+walk m D (or n l r) K = result_and (walk m D l K) (result_and (walk m D r K) (if_only (same_outside K (free l) (free r)) n))
+walk m D (exists n vs b) K = result_and (walk m D b K) (if_only (vs ⊆ free b) n)
+walk m D (forall n vs l r) K = result_and (walk m D l K) (result_and (walk m D r (K ∪ vs)) (if_only (binds_all K vs (free l) (free r)) n))
 walk m D (prev n i b) K = walk m D b (start_of m K)
 walk m D (once n i b) K = walk m D b (start_of m K)
-walk m D (hist n i b) K = and_then (if_only (searching m) n) (and_then (walk m D b K) (if_only (free b ⊆ K) n))
-walk m D (next n i b) K = and_then (if_only (searching m) n) (walk m D b K)
-walk m D (event n i b) K = and_then (if_only (searching m) n) (walk m D b K)
-walk m D (always n i b) K = and_then (if_only (searching m) n) (and_then (walk m D b K) (if_only (free b ⊆ K) n))
-walk m D (since n i l r) K = and_then (walk m D r (start_of m K)) (and_then (walk m D l (start_of m K ∪ free r)) (if_only (free l ⊆ (start_of m K ∪ free r)) n))
-walk m D (until n i l r) K = and_then (if_only (searching m) n) (and_then (walk m D r K) (and_then (walk m D l (K ∪ free r)) (if_only (free l ⊆ (K ∪ free r)) n)))
+walk m D (hist n i b) K = result_and (if_only (searching m) n) (result_and (walk m D b K) (if_only (free b ⊆ K) n))
+walk m D (next n i b) K = result_and (if_only (searching m) n) (walk m D b K)
+walk m D (event n i b) K = result_and (if_only (searching m) n) (walk m D b K)
+walk m D (always n i b) K = result_and (if_only (searching m) n) (result_and (walk m D b K) (if_only (free b ⊆ K) n))
+walk m D (since n i l r) K = result_and (walk m D r (start_of m K)) (result_and (walk m D l (start_of m K ∪ free r)) (if_only (free l ⊆ (start_of m K ∪ free r)) n))
+walk m D (until n i l r) K = result_and (if_only (searching m) n) (result_and (walk m D r K) (result_and (walk m D l (K ∪ free r)) (if_only (free l ⊆ (K ∪ free r)) n)))
 
 -- the operands of a since or an until: right, then left with right's variables known
 abbrev pub walk_sides : Mode → Declarations → ℕ → Formula → Formula → NumberSet → Result (Unit {0}) ℕ
-walk_sides m D n l r K = and_then (walk m D r K) (and_then (walk m D l (K ∪ free r)) (if_only (free l ⊆ (K ∪ free r)) n))
+walk_sides m D n l r K = result_and (walk m D r K) (result_and (walk m D l (K ∪ free r)) (if_only (free l ⊆ (K ∪ free r)) n))
 
 -- the walk fails exactly if the rules do not hold
 abbrev pub WalkTells : Type 0

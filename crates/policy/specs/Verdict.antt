@@ -1,6 +1,6 @@
 -- Which refusal a table meets, and what holds of one that meets none.
 use Rattle.std.specs.Prelude.{◌≡◌, ℕ, ◌<◌, Bool, true, false, List, length, Some, None, Ok, Err, Option, Result, slice_index, slice_index_or}
-use Rattle.std.specs.Option.{option_or as or_else}
+use Rattle.std.specs.Option.{option_or}
 use Rattle.refusal.specs.Causes.{refusal_at}
 use Rattle.refusal.specs.declared.Cause.TheVariants.{NotSearchable}
 use Rattle.refusal.specs.declared.Refusal.{Refusal}
@@ -23,7 +23,7 @@ of_walk (Err n) = Some (refusal_at NotSearchable n)
 -- the refusal of a table, if any: the first form rule that it breaks, or else the failure of the walk from the root
 -- with nothing known; so a refusal of the form comes before one of the modes
 abbrev pub refusal_of : Declarations → List Node → Option Refusal
-refusal_of D ns = or_else (first (form_questions D ns)) (of_walk (walk Search D (formula_at ns (root_of ns)) none))
+refusal_of D ns = option_or (first (form_questions D ns)) (of_walk (walk Search D (formula_at ns (root_of ns)) none))
 
 -- every form rule holds, and the root is searchable from nothing
 pub record Accepted (D : Declarations) (ns : List Node) : Type 0 where

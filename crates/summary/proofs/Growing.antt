@@ -1,6 +1,6 @@
 -- The row list over one more position.
 use Rattle.std.proofs.Common.{◌≡◌, ℕ, ◌+◌, ◌<◌, ◌≤◌, List, [], ◌∷◌, ◌++◌, length, get_or, sym, ap, ◌∙◌, subst, inl, inr, arith, length-append}
-use Rattle.std.specs.List.{AllByRecursion as All}
+use Rattle.std.specs.List.{AllByRecursion}
 use Rattle.std.proofs.lemmas.List.{get_or_append_left}
 use Rattle.std.proofs.lemmas.Bool.{cases_lt}
 use Rattle.table.specs.Formula.{Formula}
@@ -85,7 +85,7 @@ module _ (f g : Facts) (τ υ : List ℕ) (stamp : ℕ) (rτ : Rises τ) (rυ : 
     lasts = still_lasts s w p r i.shown h i.lasts;
   })
 
-  kept_rows : (s : Summary) → Sound s → Past s → (rows kept : List Row) → All (IsRow f τ s) rows → AllContinue g υ (length τ) s rows kept → All (IsRow g υ s) kept
+  kept_rows : (s : Summary) → Sound s → Past s → (rows kept : List Row) → AllByRecursion (IsRow f τ s) rows → AllContinue g υ (length τ) s rows kept → AllByRecursion (IsRow g υ s) kept
   kept_rows s w p [] [] a k = tt
   kept_rows s w p [] (r' ∷ rs') a k = absurd k
   kept_rows s w p (r ∷ rs) [] a k = absurd k
@@ -104,7 +104,7 @@ module _ (f g : Facts) (τ υ : List ℕ) (stamp : ℕ) (rτ : Rises τ) (rυ : 
   still_earlier r r' x x' a b (inl h) = inl (omega (arith, h, a.first, b.first))
   still_earlier r r' x x' a b (inr (e, h)) = inr (a.first ∙ e ∙ sym b.first, (λ i. before (a.values i) (b.values i)) ∙ h)
 
-  all_earlier : (s : Summary) (r r' : Row) → Same r r' → (rows kept : List Row) → AllContinue g υ (length τ) s rows kept → All (Earlier r) rows → All (Earlier r') kept
+  all_earlier : (s : Summary) (r r' : Row) → Same r r' → (rows kept : List Row) → AllContinue g υ (length τ) s rows kept → AllByRecursion (Earlier r) rows → AllByRecursion (Earlier r') kept
   all_earlier s r r' a [] [] k h = tt
   all_earlier s r r' a [] (x' ∷ xs') k h = absurd k
   all_earlier s r r' a (x ∷ xs) [] k h = absurd k
@@ -125,13 +125,13 @@ module _ (f g : Facts) (τ υ : List ℕ) (stamp : ℕ) (rτ : Rises τ) (rυ : 
   some_kept s vs k (r ∷ rs) (r' ∷ rs') (a, as') (inr h) = inr (some_kept s vs k rs rs' as' h)
 
   -- the kept rows began before the new position
-  kept_first : (s : Summary) (rows kept : List Row) → All (IsRow f τ s) rows → AllContinue g υ (length τ) s rows kept → All (λ r. r.first < length τ) kept
+  kept_first : (s : Summary) (rows kept : List Row) → AllByRecursion (IsRow f τ s) rows → AllContinue g υ (length τ) s rows kept → AllByRecursion (λ r. r.first < length τ) kept
   kept_first s [] [] a k = tt
   kept_first s [] (r' ∷ rs') a k = absurd k
   kept_first s (r ∷ rs) [] a k = absurd k
   kept_first s (r ∷ rs) (r' ∷ rs') (a, as') (k, ks) = (omega (arith, a.shown, (same_row s r r' k).first), kept_first s rs rs' as' ks)
 
-all_append : (P : Row → Type 0) (xs ys : List Row) → All P xs → All P ys → All P (xs ++ ys)
+all_append : (P : Row → Type 0) (xs ys : List Row) → AllByRecursion P xs → AllByRecursion P ys → AllByRecursion P (xs ++ ys)
 all_append P [] ys a b = b
 all_append P (x ∷ xs) ys (a, as') b = (a, all_append P xs ys as' b)
 
@@ -144,15 +144,15 @@ some_right : (P : Row → Type 0) (xs ys : List Row) → SomeOf P ys → SomeOf 
 some_right P [] ys h = h
 some_right P (x ∷ xs) ys h = inr (some_right P xs ys h)
 
-behind : (n : ℕ) (r : Row) → r.first < n → (xs : List Row) → All (λ x. x.first ≡ n) xs → All (Earlier r) xs
+behind : (n : ℕ) (r : Row) → r.first < n → (xs : List Row) → AllByRecursion (λ x. x.first ≡ n) xs → AllByRecursion (Earlier r) xs
 behind n r l [] a = tt
 behind n r l (x ∷ xs) (a, as') = (inl (omega (arith, l, a)), behind n r l xs as')
 
-sorted_append : (n : ℕ) (xs ys : List Row) → Sorted xs → Sorted ys → All (λ r. r.first < n) xs → All (λ x. x.first ≡ n) ys → Sorted (xs ++ ys)
+sorted_append : (n : ℕ) (xs ys : List Row) → Sorted xs → Sorted ys → AllByRecursion (λ r. r.first < n) xs → AllByRecursion (λ x. x.first ≡ n) ys → Sorted (xs ++ ys)
 sorted_append n [] ys a b c d = b
 sorted_append n (x ∷ xs) ys (a, as') b (c, cs) d = (all_append (Earlier x) xs ys a (behind n x c ys d), sorted_append n xs ys as' b cs d)
 
-firsts : (g : Facts) (υ : List ℕ) (n : ℕ) (s : Summary) (xs : List Row) → All (λ r. IsRow g υ s r × (r.first ≡ n)) xs → All (λ r. IsRow g υ s r) xs × All (λ r. r.first ≡ n) xs
+firsts : (g : Facts) (υ : List ℕ) (n : ℕ) (s : Summary) (xs : List Row) → AllByRecursion (λ r. IsRow g υ s r × (r.first ≡ n)) xs → AllByRecursion (λ r. IsRow g υ s r) xs × AllByRecursion (λ r. r.first ≡ n) xs
 firsts g υ n s [] a = (tt, tt)
 firsts g υ n s (x ∷ xs) (a, as') = let r = firsts g υ n s xs as' in ((a.0, r.0), (a.1, r.1))
 

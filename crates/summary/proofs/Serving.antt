@@ -1,6 +1,6 @@
 -- A formula is true exactly where one of its rows serves.
 use Rattle.std.proofs.Common.{◌≡◌, ℕ, zero, suc, ◌+◌, ◌-◌, ◌^◌, ◌<◌, ◌≤◌, Bool, true, false, cond, not, ltb, List, [], ◌∷◌, length, get_or, sym, refl, ap, ◌∙◌, subst, inl, inr, arith}
-use Rattle.std.specs.List.{AllByRecursion as All}
+use Rattle.std.specs.List.{AllByRecursion}
 use Rattle.std.proofs.lemmas.List.{get_or_past}
 use Rattle.std.proofs.lemmas.Bool.{or_cases, and_parts, cases_lt, eqb-true, ltb-true, false≢true}
 use Rattle.sets.specs.Sets.{NumberSet, none, ◌∪◌, ◌∖◌, single}
@@ -91,12 +91,12 @@ restricted_is : (K : NumberSet) (η : Valuation) (v : ℕ) → v < 8 → K v ≡
 restricted_is K η v l h = restricted_at K η v l ∙ ap (λ (b : Bool). cond b (η v) 0) h
 
 -- an element of a list, with what is so of all of them
-pub among : {X : Type 0} (P Q R : X → Type 0) (xs : List X) → ((x : X) → P x → Q x → R x) → All P xs → SomeOf Q xs → SomeOf R xs
+pub among : {X : Type 0} (P Q R : X → Type 0) (xs : List X) → ((x : X) → P x → Q x → R x) → AllByRecursion P xs → SomeOf Q xs → SomeOf R xs
 among P Q R [] f a h = h
 among P Q R (x ∷ xs) f (a, rest) (inl h) = inl (f x a h)
 among P Q R (x ∷ xs) f (a, rest) (inr h) = inr (among P Q R xs f rest h)
 
-pub found : {X : Type 0} (P Q : X → Type 0) (T : Type 0) (xs : List X) → ((x : X) → P x → Q x → T) → All P xs → SomeOf Q xs → T
+pub found : {X : Type 0} (P Q : X → Type 0) (T : Type 0) (xs : List X) → ((x : X) → P x → Q x → T) → AllByRecursion P xs → SomeOf Q xs → T
 found P Q T [] f a h = absurd h
 found P Q T (x ∷ xs) f (a, rest) (inl h) = f x a h
 found P Q T (x ∷ xs) f (a, rest) (inr h) = found P Q T xs f rest h

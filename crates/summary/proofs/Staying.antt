@@ -1,6 +1,6 @@
 -- Facts at positions that are not shown change no rows.
 use Rattle.std.proofs.Common.{◌≡◌, ℕ, ◌+◌, ◌<◌, List, [], ◌∷◌, length, get_or, sym, refl, arith}
-use Rattle.std.specs.List.{AllByRecursion as All}
+use Rattle.std.specs.List.{AllByRecursion}
 use Rattle.table.specs.Formula.{Formula}
 use Rattle.policy.specs.Wait.{wait}
 use Rattle.facts.specs.Facts.{Facts}
@@ -41,7 +41,7 @@ module _ (f g : Facts) (τ : List ℕ) (rise : Rises τ) (same : (k q : ℕ) (vs
     lasts = still_lasts s w (valued r.values) r.first r.last i.lasts;
   }
 
-  rows_still : (s : Summary) → Sound s → (rows : List Row) → All (IsRow f τ s) rows → All (IsRow g τ s) rows
+  rows_still : (s : Summary) → Sound s → (rows : List Row) → AllByRecursion (IsRow f τ s) rows → AllByRecursion (IsRow g τ s) rows
   rows_still s w [] a = tt
   rows_still s w (r ∷ rs) (a, as') = (row s w r a, rows_still s w rs as')
 

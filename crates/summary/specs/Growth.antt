@@ -1,6 +1,6 @@
 -- The row list over one more position.
 use Rattle.std.specs.Prelude.{◌≡◌, ℕ, ◌+◌, ◌<◌, true, ◌⊎◌, List, [], ◌∷◌, ◌++◌, length}
-use Rattle.std.specs.List.{AllByRecursion as All}
+use Rattle.std.specs.List.{AllByRecursion}
 use Rattle.table.specs.declared.Node.{Node}
 use Rattle.table.specs.Form.{Declarations}
 use Rattle.table.specs.Formed.{Formed}
@@ -46,7 +46,7 @@ module _ (g : Facts) (υ : List ℕ) (n : ℕ) where
 
   -- the rows that begin at the position n, in their order
   pub record NewRows (s : Summary) (news : List Row) : Type 0 where
-    pub each : All (λ r. IsRow g υ s r × (r.first ≡ n)) news
+    pub each : AllByRecursion (λ r. IsRow g υ s r × (r.first ≡ n)) news
     pub sorted : Sorted news
     pub all : (vs : List ℕ) → ValuesFor (free (source s)) vs → Truth g υ (source s) (valued vs) n → SomeOf (λ r. (r.values ≡ vs) × (r.first ≡ n)) news
 

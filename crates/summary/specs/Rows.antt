@@ -3,7 +3,7 @@ use Rattle.std.specs.Prelude.{◌≡◌, ℕ, ◌+◌, ◌-◌, ◌^◌, ◌<◌
 use Rattle.sets.specs.Sets.{NumberSet}
 use Rattle.table.specs.declared.Interval.{Interval}
 use Rattle.table.specs.Formula.{Formula, verum, prev, once, since, free}
-use Rattle.std.specs.List.{AllByRecursion as All}
+use Rattle.std.specs.List.{AllByRecursion}
 use Rattle.facts.specs.Facts.{Facts}
 use Rattle.facts.specs.Tuples.{before}
 use Rattle.mfotl.specs.Laws.{WellFormed, Equivalent}
@@ -62,7 +62,7 @@ Earlier r x = (r.first < x.first) ⊎ ((r.first ≡ x.first) × (before r.values
 -- each row comes before all that stand behind it
 abbrev pub Sorted : List Row → Type 0
 Sorted [] = Unit {0}
-Sorted (r ∷ rs) = All (Earlier r) rs × Sorted rs
+Sorted (r ∷ rs) = AllByRecursion (Earlier r) rs × Sorted rs
 
 module _ (f : Facts) (τ : List ℕ) where
   -- e is the last position that a row which began at k counts for: k itself, and for since the last one up to which left is true
@@ -80,7 +80,7 @@ module _ (f : Facts) (τ : List ℕ) where
 
   -- the row list of a formula: all its rows over the positions shown, and no others, in their order
   pub record RowList (s : Summary) (rows : List Row) : Type 0 where
-    pub each : All (IsRow s) rows
+    pub each : AllByRecursion (IsRow s) rows
     pub sorted : Sorted rows
     pub all : (vs : List ℕ) (k : ℕ) → ValuesFor (free (source s)) vs → k < length τ → Truth f τ (source s) (valued vs) k → SomeOf (λ r. (r.values ≡ vs) × (r.first ≡ k)) rows
 

@@ -1,6 +1,6 @@
 -- The questions that are asked of a table: the first rule that is broken, part by part.
 use Rattle.std.proofs.Common.{◌≡◌, ℕ, zero, suc, ◌+◌, ◌<◌, ◌≤◌, Bool, true, false, cond, List, [], ◌∷◌, ◌++◌, length, drop, IfOk, Some, None, Ok, Err, Result, sym, refl, ap, ◌∙◌, arith}
-use Rattle.std.specs.List.{AllByRecursion as All}
+use Rattle.std.specs.List.{AllByRecursion}
 use Rattle.std.proofs.lemmas.List.{at_drop_more, at_drop_all}
 use Rattle.std.specs.Result.{result_err}
 use Rattle.refusal.specs.declared.Refusal.{Refusal}
@@ -37,14 +37,14 @@ module _ (f : ℕ → List Question) (ns : List Node) (i : ℕ) (inv : first (in
   turn_done h = sym (at_drop_all (λ (l : List Node). first (in_turn f i l)) ns i h) ∙ inv
 
 -- no rule is broken
-pub unbroken : (qs : List Question) → None ≡ first qs → All (λ q. q.broken ≡ false) qs
+pub unbroken : (qs : List Question) → None ≡ first qs → AllByRecursion (λ q. q.broken ≡ false) qs
 unbroken [] e = tt
 unbroken (q ∷ qs) e = whole q.broken (λ (f : None ≡ first qs). unbroken qs f) e where
-  whole : (b : Bool) → (None ≡ first qs → All (λ q. q.broken ≡ false) qs) → None ≡ cond b (Some q.refusal) (first qs) → (b ≡ false) × All (λ q. q.broken ≡ false) qs
+  whole : (b : Bool) → (None ≡ first qs → AllByRecursion (λ q. q.broken ≡ false) qs) → None ≡ cond b (Some q.refusal) (first qs) → (b ≡ false) × AllByRecursion (λ q. q.broken ≡ false) qs
   whole true k e = absurd (let z : ◌≡◌ {A = ℕ} 0 1 = cc in omega arith)
   whole false k e = (refl, k e)
 
-none_broken : (qs : List Question) → All (λ q. q.broken ≡ false) qs → None ≡ first qs
+none_broken : (qs : List Question) → AllByRecursion (λ q. q.broken ≡ false) qs → None ≡ first qs
 none_broken [] h = refl
 none_broken (q ∷ qs) h = none_broken qs h.1 ∙ sym (ap (λ (b : Bool). cond b (Some q.refusal) (first qs)) h.0)
 
@@ -67,7 +67,7 @@ turns f n [] e i h = absurd (omega arith)
 turns f n (x ∷ xs) e zero h = append_left (f n) (in_turn f (n + 1) xs) e ∙ ap (λ (m : ℕ). first (f m)) (omega arith)
 turns f n (x ∷ xs) e (suc i) h = turns f (n + 1) xs (append_right (f n) (in_turn f (n + 1) xs) e) i (omega arith) ∙ ap (λ (m : ℕ). first (f m)) (omega arith)
 
-pub each_turn : (f : ℕ → List Question) (ns : List Node) → None ≡ first (in_turn f 0 ns) → (i : ℕ) → i < length ns → All (λ q. q.broken ≡ false) (f i)
+pub each_turn : (f : ℕ → List Question) (ns : List Node) → None ≡ first (in_turn f 0 ns) → (i : ℕ) → i < length ns → AllByRecursion (λ q. q.broken ≡ false) (f i)
 each_turn f ns e i h = unbroken (f i) (turns f 0 ns e i h ∙ ap (λ (m : ℕ). first (f m)) (omega arith))
 
 turns_back : (f : ℕ → List Question) (n : ℕ) (xs : List Node) → ((i : ℕ) → i < length xs → None ≡ first (f (n + i))) → None ≡ first (in_turn f n xs)
@@ -76,7 +76,7 @@ turns_back f n (x ∷ xs) h =
     none_append (f n) (in_turn f (n + 1) xs) (h 0 (omega arith) ∙ ap (λ (m : ℕ). first (f m)) (omega arith))
     (turns_back f (n + 1) xs (λ i l. h (suc i) (omega arith) ∙ ap (λ (m : ℕ). first (f m)) (omega arith)))
 
-all_turns : (f : ℕ → List Question) (ns : List Node) → ((i : ℕ) → i < length ns → All (λ q. q.broken ≡ false) (f i)) → None ≡ first (in_turn f 0 ns)
+all_turns : (f : ℕ → List Question) (ns : List Node) → ((i : ℕ) → i < length ns → AllByRecursion (λ q. q.broken ≡ false) (f i)) → None ≡ first (in_turn f 0 ns)
 all_turns f ns h = turns_back f 0 ns (λ i l. none_broken (f i) (h i l) ∙ ap (λ (m : ℕ). first (f m)) (omega arith))
 
 -- the rules that are kept, from the questions and back
@@ -92,11 +92,11 @@ module _ (D : Declarations) (ns : List Node) where
 
   formed : None ≡ first (form_questions D ns) → Formed D ns
   formed e =
-      let size : All (λ q. q.broken ≡ false) (of_size D ns) = unbroken (of_size D ns) (append_left (of_size D ns) (ofNodes ++ together ns) e) in
+      let size : AllByRecursion (λ q. q.broken ≡ false) (of_size D ns) = unbroken (of_size D ns) (append_left (of_size D ns) (ofNodes ++ together ns) e) in
       let p = append_right (of_size D ns) (ofNodes ++ together ns) e in
       let q = append_right ofNodes (together ns) p in
       let r = append_right ofAllParents (ofAllBindings ++ of_root ns) q in
-      let node : (i : ℕ) → i < length ns → All (λ q. q.broken ≡ false) (of_node D ns i) = each_turn (of_node D ns) ns (append_left ofNodes (together ns) p) in
+      let node : (i : ℕ) → i < length ns → AllByRecursion (λ q. q.broken ≡ false) (of_node D ns i) = each_turn (of_node D ns) ns (append_left ofNodes (together ns) p) in
       record {
         count = size.0;
         declarations = size.1.0;

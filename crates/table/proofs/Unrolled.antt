@@ -1,6 +1,6 @@
 -- The formula of a node, by those of its children, which come before it.
 use Rattle.std.proofs.Common.{◌≡◌, ℕ, zero, suc, ◌+◌, ◌<◌, ◌≤◌, false, leb, List, [], ◌∷◌, ◌++◌, length, get_or, set, sym, refl, ap, ◌∙◌, arith, length-append}
-use Rattle.std.specs.List.{AllByRecursion as All}
+use Rattle.std.specs.List.{AllByRecursion}
 use Rattle.std.proofs.lemmas.List.{get_or_append_left, get_or_at, get_or_past}
 use Rattle.std.proofs.lemmas.Bool.{leb-false, or_parts}
 use Rattle.sets.specs.declared.SmallSet.{SmallSet}
@@ -12,11 +12,11 @@ use Rattle.table.proofs.Loops.{fill_more}
 use Rattle.table.specs.Form.{some, children, not_below, node_at}
 
 -- the children of a node that keeps rule 3
-all_below : (i : ℕ) (xs : List ℕ) → some (λ c. leb i c) xs ≡ false → All (λ c. c < i) xs
+all_below : (i : ℕ) (xs : List ℕ) → some (λ c. leb i c) xs ≡ false → AllByRecursion (λ c. c < i) xs
 all_below i [] e = tt
 all_below i (x ∷ xs) e = let p = or_parts (leb i x) (some (λ c. leb i c) xs) e in (leb-false i x p.0, all_below i xs p.1)
 
-pub children_below : (i : ℕ) (x : Node) → not_below i x ≡ false → All (λ c. c < i) (children x)
+pub children_below : (i : ℕ) (x : Node) → not_below i x ≡ false → AllByRecursion (λ c. c < i) (children x)
 children_below i x e = all_below i (children x) e
 
 -- what is done stays
@@ -28,7 +28,7 @@ kept done (x ∷ xs) i h =
     kept (done ++ f ∷ []) xs i k ∙ get_or_append_left done (f ∷ []) (verum 0) i h
 
 -- a node's formula depends on those of its children
-same_formula : (fs gs : List Formula) (n : ℕ) → ((i : ℕ) → i < n → get_or fs i (verum 0) ≡ get_or gs i (verum 0)) → (x : Node) → All (λ c. c < n) (children x) → formula_of fs n x ≡ formula_of gs n x
+same_formula : (fs gs : List Formula) (n : ℕ) → ((i : ℕ) → i < n → get_or fs i (verum 0) ≡ get_or gs i (verum 0)) → (x : Node) → AllByRecursion (λ c. c < n) (children x) → formula_of fs n x ≡ formula_of gs n x
 same_formula fs gs n e True s = refl
 same_formula fs gs n e False s = refl
 same_formula fs gs n e (Atom p ts) s = refl
@@ -48,7 +48,7 @@ same_formula fs gs n e (Until i l r) s = let p = e l s.0 in let q = e r s.1.0 in
 grown : (done : List Formula) (f : Formula) → length (done ++ f ∷ []) ≡ length done + 1
 grown done f = length-append done (f ∷ [])
 
-each : (done : List Formula) (xs : List Node) (i n : ℕ) → n ≡ length done + i → i < length xs → All (λ c. c < n) (children (node_at xs i)) → get_or (onward done xs) n (verum 0) ≡ formula_of (onward done xs) n (node_at xs i)
+each : (done : List Formula) (xs : List Node) (i n : ℕ) → n ≡ length done + i → i < length xs → AllByRecursion (λ c. c < n) (children (node_at xs i)) → get_or (onward done xs) n (verum 0) ≡ formula_of (onward done xs) n (node_at xs i)
 each done [] i n is lt s = absurd (omega arith)
 each done (x ∷ xs) zero n is lt s =
     let f = formula_of done (length done) x in

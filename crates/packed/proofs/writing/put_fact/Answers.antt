@@ -1,5 +1,5 @@
 use Rattle.std.proofs.Common.{◌≡◌, ◌^◌, ◌<◌, ◌++◌, length, vec_items, subst, arith, rules}
-use Rattle.std.specs.List.{AllByRecursion as All}
+use Rattle.std.specs.List.{AllByRecursion}
 use Rattle.std.proofs.lemmas.Bool.{and_parts, ltb-true}
 use Rattle.facts.proofs.Tuples.{three_taken}
 use Rattle.facts.specs.Tuples.{arguments}
@@ -20,6 +20,6 @@ returns c =
     let now = vec_items c.put_values.new.bytes in
     let e : now ≡ was ++ encode_item width (written c.args.position x) =
     fact_put width x.predicate c.args.position _ x.count (arguments x) _ was _ _ _ t c.arguments.ensures c.from.ensures c.push_reserved.ensures.items c.put_number.ensures.items c.put_values.ensures.items in
-    let v = subst (All (λ v. v < 256 ^ width)) c.arguments.ensures c.put_values.ensures.fits in
+    let v = subst (AllByRecursion (λ v. v < 256 ^ width)) c.arguments.ensures c.put_values.ensures.fits in
     let p = put_item width was now (written c.args.position x) c.requires.whole (q, search rules, omega arith, v) e in
     record { puts = p; len = search rules; capacity = search rules }

@@ -5,11 +5,11 @@ mod answer;
 mod hub;
 
 use crate::hub::Hub;
-use anyhow::anyhow;
 use std::io::{BufRead, BufReader, Write};
+use std::process::ExitCode;
 
 // Lines are bytes: a comment may hold any text, and a line is printed just as it stands.
-fn main(rt: HostRuntime) -> anyhow::Result<()> {
+fn main(rt: HostRuntime) -> anyhow::Result<ExitCode> {
     let heap = rt.alloc();
     let mut hub = Hub::new();
     let mut number = 0u64;
@@ -24,11 +24,11 @@ fn main(rt: HostRuntime) -> anyhow::Result<()> {
             eprint!(rt; "line {number}: cannot read: ")?;
             rt.stderr().write_all(line)?;
             eprintln!(rt)?;
-            return Err(anyhow!("a line that cannot be read"));
+            return Ok(ExitCode::FAILURE);
         };
         let answer = hub.carry_out(heap, command)?;
         rt.stdout().write_all(line)?;
         println!(rt; " -> {answer}")?;
     }
-    Ok(())
+    Ok(ExitCode::SUCCESS)
 }

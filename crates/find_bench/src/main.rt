@@ -99,7 +99,7 @@ fn time_journal<J: Journal>(rt: &HostRuntime, name: &str, journal: &mut J) -> an
     time_scattered(rt, journal)
 }
 
-// With no argument nothing is timed, so that `rt check`, which runs what it builds, ends at once.
+// With no argument nothing is timed, so that the run of the gate ends at once.
 fn main(rt: HostRuntime) -> anyhow::Result<()> {
     if env::args(&rt)?.len() < 2 {
         return Ok(());

@@ -1,5 +1,5 @@
 -- What the layers make of the answers and the changes below.
-use Rattle.std.specs.Prelude.{◌≡◌, ℕ, ◌+◌, ◌-◌, Bool, true, false, cond, ◌&&◌, ◌||◌, List, [], ◌∷◌, length, is_ok, Ok, Err, Option, Result, ◌==◌, nat_lt, refl}
+use Rattle.std.specs.Prelude.{◌≡◌, ℕ, ◌+◌, Bool, true, false, cond, ◌&&◌, ◌||◌, List, [], ◌∷◌, length, is_ok, Ok, Err, Option, Result, ◌==◌, nat_lt, refl}
 use Rattle.std.proofs.Common.{sym, ap, subst, ◌∙◌, inl, inr}
 use Rattle.std.proofs.Math.Bool.{or-false}
 use Rattle.std.specs.Result.{result_and}
@@ -11,7 +11,7 @@ use Rattle.facts.specs.declared.Fact.{Fact}
 use Rattle.facts.specs.declared.Query.{Query}
 use Rattle.facts.specs.Facts.{Facts, wanted, answerable, FoundCases, Found}
 use Rattle.facts.proofs.Scans.{like}
-use Rattle.facts.specs.Tuples.{same, is_fact, among, recordable, fits}
+use Rattle.facts.specs.Tuples.{is_fact, among, recordable, fits}
 use Rattle.journal.specs.Trace.{Trace, own, Added, Grown, Commits, sound_from, commit_answer, shown}
 use Rattle.journal.specs.Layers.{merged, Beside}
 

@@ -11,7 +11,7 @@ use Rattle.refusal.specs.declared.Refusal.{Refusal}
 use Rattle.facts.specs.declared.Fact.{Fact}
 use Rattle.facts.specs.Facts.{Facts}
 use Rattle.facts.specs.Tuples.{among, recordable}
-use Rattle.journal.specs.Trace.{Trace, own, Added, Grown, Noted, Orderly, sound_from, unless, costs, commit_answer, late_answer, shown, stamp_at}
+use Rattle.journal.specs.Trace.{Trace, Added, Grown, Noted, Orderly, sound_from, unless, costs, commit_answer, late_answer, shown, stamp_at}
 use Rattle.journal.specs.Layers.{shifted, later, Behind, own_place}
 
 -- the stamps of later positions

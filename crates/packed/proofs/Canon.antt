@@ -4,7 +4,7 @@ use Rattle.std.specs.List.{flat_map, AllByRecursion}
 use Rattle.std.proofs.ByRecursion.{All-drop}
 use Rattle.std.proofs.lemmas.List.{drop-drop}
 use Rattle.std.proofs.lemmas.Bool.{and_parts, eqb-true}
-use Rattle.packed.specs.Format.{mark, fact, le, num, nums, encode_item, encode, headed, more, item_at, items, whole, Whole, Canonical}
+use Rattle.packed.specs.Format.{mark, fact, le, num, nums, encode_item, encode, headed, more, item_at, items, whole, Canonical}
 use Rattle.packed.specs.Digits.{length_nums}
 use Rattle.packed.specs.Coding.{whole_skip}
 

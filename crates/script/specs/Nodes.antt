@@ -1,5 +1,5 @@
 -- How the nodes of a table are written.
-use Rattle.std.specs.Prelude.{ℕ, ◌+◌, ◌^◌, cond, List, [], ◌∷◌, set, Some, None, codes, Option, bit_or, nat_lt, slice_set}
+use Rattle.std.specs.Prelude.{ℕ, ◌+◌, ◌^◌, cond, List, [], ◌∷◌, Some, None, codes, Option, bit_or, nat_lt, slice_set}
 use Rattle.std.specs.Str.{bytes_eq}
 use Rattle.sets.specs.declared.SmallSet.{SmallSet}
 use Rattle.table.specs.declared.node.Interval.{Interval}

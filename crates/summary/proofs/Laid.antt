@@ -7,7 +7,7 @@ use Rattle.std.specs.List.{slice_get}
 use Rattle.std.proofs.lemmas.Option.{slice_get-get_or, slice_get_past}
 use Rattle.std.proofs.lemmas.Bool.{cases_lt, lt-ltb, le-ltb, true≢false, false≢true}
 use Rattle.summary.specs.declared.row.Row.{Row}
-use Rattle.summary.specs.Kept.{rows_of, total, added, longer, raised, raised_at}
+use Rattle.summary.specs.Kept.{rows_of, total, added, longer, raised_at}
 use Rattle.summary.specs.Layout.{count_of, before, laid, put_in, cut_out, place_of, no_row}
 use Rattle.summary.proofs.Declining.{same_all}
 use Rattle.summary.proofs.Raising.{raised_behind, raised_left, raised_long, raised_past}

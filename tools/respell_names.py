@@ -17,8 +17,8 @@ import sys
 WORD = re.compile(r"[^\s(){}\[\].,;|`\"/:]+")
 NAME = r"[^\s(){}\[\].,;|]+"
 HEAD = re.compile(r"(?:abbrev |unfoldable )?(?:pub )?(?:(?:record|data) )?(" + NAME + r")((?: .*)? :(?: |$).*)")
-MEMBER = re.compile(r"  (?:pub )?(" + NAME + r") :(?: |$)")
-CASE = re.compile(r"  \| (" + NAME + r") :")
+MEMBER = re.compile(r"\s+(?:abbrev )?(?:pub )?(" + NAME + r") :(?: |$)")
+CASE = re.compile(r"\s+\| (" + NAME + r") :")
 # Two names that would fall together with others: lemmas that keep their dash.
 KEPT = {"in-turn", "bit-or", "bit-and", "over-past", "not-below"}
 # A fact that is spelled as a type.

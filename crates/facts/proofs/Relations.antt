@@ -52,20 +52,20 @@ sibling x v (Some t) s e p = at (get_or t 0 0) (get_or t 1 0) (sym (before_two (
           let w = and_parts (eqb m x) (leb (x / 256 * 256) n) y in
           let me : m ≡ x = eqb-true m x w.0 in
           let ne : x / 256 * 256 ≤ n = leb-true (x / 256 * 256) n w.1 in
-          let nv : n < v = second-part m n me h in
+          let nv : n < v = second_part m n me h in
           let mn : min (n + 1) 4294967295 ≡ n + 1 = omega (arith, nv, e, s) in
-          rw (y, mn) (omega (arith, e, ne, nv), before_two m n x (n + 1) ∙ rw (eq-eqb m x me, lt-ltb n (n + 1) (omega arith)) (or-true (ltb m x)), omega (arith, nv))
+          rw (y, mn) (omega (arith, e, ne, nv), before_two m n x (n + 1) ∙ rw (eq-eqb m x me, lt-ltb n (n + 1) (omega arith)) (or_true (ltb m x)), omega (arith, nv))
       | inr y ↦
           let f = first_part m n y h in
           rw y (omega arith, before_two m n x (x / 256 * 256) ∙ f, omega (arith, e))
     ]
       where
-        or-true : (b : Bool) → (b || true) ≡ true
-        or-true true = refl
-        or-true false = refl
+        or_true : (b : Bool) → (b || true) ≡ true
+        or_true true = refl
+        or_true false = refl
 
-        second-part : (m n : ℕ) → m ≡ x → (ltb m x || (eqb m x && ltb n v)) ≡ true → n < v
-        second-part m n me h = grind (arith, nat_tests)
+        second_part : (m n : ℕ) → m ≡ x → (ltb m x || (eqb m x && ltb n v)) ≡ true → n < v
+        second_part m n me h = grind (arith, nat_tests)
 
         first_part : (m n : ℕ) → (eqb m x && leb (x / 256 * 256) n) ≡ false → (ltb m x || (eqb m x && ltb n v)) ≡ true → (ltb m x || (eqb m x && ltb n (x / 256 * 256))) ≡ true
         first_part m n y h = grind (arith, nat_tests)
@@ -119,13 +119,13 @@ chosen R x q a r s d e m =
 
 pub not_chosen : (R : Relation) (q : Query) (a : Option (List ℕ)) → get_or q.given 0 None ≡ None → Chosen R q a None
 unfolding single below
-not_chosen R q a e m = absurd (false≢true (first-needed R (subst (λ (o : Option ℕ). is_ok (given (needs_of R) 0 (o ∷ get_or q.given 1 None ∷ get_or q.given 2 None ∷ [])) ≡ true) e (ap is_ok m))))
+not_chosen R q a e m = absurd (false≢true (first_needed R (subst (λ (o : Option ℕ). is_ok (given (needs_of R) 0 (o ∷ get_or q.given 1 None ∷ get_or q.given 2 None ∷ [])) ≡ true) e (ap is_ok m))))
   where
-    first-needed : (R : Relation) → is_ok (given (needs_of R) 0 (None ∷ get_or q.given 1 None ∷ get_or q.given 2 None ∷ [])) ≡ true → false ≡ true
-    first-needed relation.Equal h = h
-    first-needed relation.Less h = h
-    first-needed relation.Class h = h
-    first-needed relation.Sibling h = h
+    first_needed : (R : Relation) → is_ok (given (needs_of R) 0 (None ∷ get_or q.given 1 None ∷ get_or q.given 2 None ∷ [])) ≡ true → false ≡ true
+    first_needed relation.Equal h = h
+    first_needed relation.Less h = h
+    first_needed relation.Class h = h
+    first_needed relation.Sibling h = h
 
 module _ (p : ℕ) (q : Query) (a : Option (List ℕ)) (o : Option Relation) (e : relation_of q.predicate ≡ o) (h : allowed calculated q ≡ Ok tt) where
   -- a query that is allowed is one of a relation, with two arguments

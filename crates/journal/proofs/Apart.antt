@@ -72,12 +72,12 @@ module _ (f g : Facts) (t u : Trace) (few : shown t ≤ 65536) (a : ℕ) (xs : L
 two_recorded : (t : Trace) (a : ℕ) (xs : List Fact) (b : ℕ) (ys : List Fact) → is_ok (two_answer t a xs b ys) ≡ true → Recorded xs × Recorded ys
 two_recorded t a xs b ys h = (
   recorded 0 xs (first_ok (sound_from 0 xs) _ (first_ok (commit_answer t a xs) _ h)),
-  recorded 0 ys (first_ok (sound_from 0 ys) _ (second-ok (commit_answer t a xs) _ h)),
+  recorded 0 ys (first_ok (sound_from 0 ys) _ (second_ok (commit_answer t a xs) _ h)),
 )
   where
-    second-ok : (x y : Result (Unit {0}) Refusal) → is_ok (result_and x y) ≡ true → is_ok y ≡ true
-    second-ok (Ok _) y h = h
-    second-ok (Err e) y h = absurd (false≢true h)
+    second_ok : (x y : Result (Unit {0}) Refusal) → is_ok (result_and x y) ≡ true → is_ok y ≡ true
+    second_ok (Ok _) y h = h
+    second_ok (Err e) y h = absurd (false≢true h)
 
 pub twice_beside : (f g k : Facts) (t u v : Trace) (a : ℕ) (xs : List Fact) (b : ℕ) (ys : List Fact) → is_ok (two_answer v a xs b ys) ≡ true
     → Twice (merged f k) t (merged g k) u a xs b ys → Beside f g → Twice f t g u a xs b ys

@@ -55,8 +55,8 @@ module _ (f g : Facts) (t u : Trace) (a : ℕ) (xs : List Fact) (w : Grown f t g
       fact = λ n. z.fact n ∙ w.fact n;
     }
 
-    pub two-lengthen : t.next ≤ a → u.next ≤ b → b < 2 ^ 32 → Lengthens f t h v
-    two-lengthen ta ub bl = record {
+    pub two_lengthen : t.next ≤ a → u.next ≤ b → b < 2 ^ 32 → Lengthens f t h v
+    two_lengthen ta ub bl = record {
       further = a ∷ b ∷ [];
       stamps = twice.stamps;
       allowed = and_from _ _ (le-leb t.next a ta) (and_from _ _ (le-leb (a + 1) b (omega (arith, ub, w.next))) (le-leb (b + 1) (2 ^ 32) (omega (arith, bl))));
@@ -72,7 +72,7 @@ module _ {J : Type 0} (f : J → Facts) (m : J → Trace) (i j k : J) (a : ℕ) 
       record {
         answer = q.answer ∙ second_answer (f i) (f j) (m i) (m j) a xs w b ys ∙ ap (λ (c : Result (Unit {0}) Refusal). result_and c (commit_answer (committed (m i) a xs) b ys)) p.answer;
         taken = λ o. twice (f i) (f j) (m i) (m j) a xs w (f k) (m k) b ys (q.taken o);
-        lengthens = λ o. two-lengthen (f i) (f j) (m i) (m j) a xs w (f k) (m k) b ys (q.taken o) (allowed_stamp (m i) a xs ok) (allowed_stamp (m j) b ys (ap is_ok (sym q.answer) ∙ o)) bl;
+        lengthens = λ o. two_lengthen (f i) (f j) (m i) (m j) a xs w (f k) (m k) b ys (q.taken o) (allowed_stamp (m i) a xs ok) (allowed_stamp (m j) b ys (ap is_ok (sym q.answer) ∙ o)) bl;
         half = λ o y. subst (λ (l : J). Grown (f i) (m i) (f l) (m l) a xs) (sym (q.refused o)) w;
         refused = λ n. absurd (true≢false (sym ok ∙ n));
       }

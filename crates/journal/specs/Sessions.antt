@@ -48,11 +48,11 @@ module _ (f g : Facts) (k b : ℕ) (xs : List Fact) (a : Added f g k xs) (h : b 
   }
 
   untouched : (p q : ℕ) (vs : List ℕ) → (p ≢ k) → g.holds p q vs ≡ f.holds p q vs
-  untouched p q vs n = a.holds p q vs ∙ rw (ne_eqb p k n) (or-none (f.holds p q vs))
+  untouched p q vs n = a.holds p q vs ∙ rw (ne_eqb p k n) (or_none (f.holds p q vs))
     where
-      or-none : (t : Bool) → (t || false) ≡ t
-      or-none true = refl
-      or-none false = refl
+      or_none : (t : Bool) → (t || false) ≡ t
+      or_none true = refl
+      or_none false = refl
 
   pub added_behind : (t u : Trace) → take b u.stamps ≡ take b t.stamps → Behind f t g u b
   added_behind t u s = record {
@@ -132,8 +132,8 @@ module _ {J : Type 0} (f : J → Facts) (m : J → Trace) (i j : J) (b : ℕ) (h
   grown_shown s xs w = omega (arith, ap length w.stamps ∙ length-append (m i).stamps (s ∷ []))
 
   module _ (p k : ℕ) (x : Fact) (e : k ≡ p + b) (l : k < shown (m i)) (w : Noted (f i) (m i) (f j) (m j) k x) where
-    pub noted-later : (c : ℕ) → c ≡ b → Noted (shifted (f i) b) (later (m i) b) (shifted (f j) c) (later (m j) c) p x
-    noted-later c d = subst (λ (n : ℕ). Noted (shifted (f i) b) (later (m i) b) (shifted (f j) n) (later (m j) n) p x) (sym d) (record {
+    pub noted_later : (c : ℕ) → c ≡ b → Noted (shifted (f i) b) (later (m i) b) (shifted (f j) c) (later (m j) c) p x
+    noted_later c d = subst (λ (n : ℕ). Noted (shifted (f i) b) (later (m i) b) (shifted (f j) n) (later (m j) n) p x) (sym d) (record {
       facts = subst (λ (n : ℕ). Added (shifted (f i) b) (shifted (f j) b) n (x ∷ [])) (omega (arith, e)) (added_later (f i) (f j) k b (x ∷ []) w.facts (omega (arith, e)) (omega arith));
       stamps = ap (drop b) w.stamps;
       next = w.next;
@@ -142,8 +142,8 @@ module _ {J : Type 0} (f : J → Facts) (m : J → Trace) (i j : J) (b : ℕ) (h
       fact = w.fact;
     })
 
-    pub noted-behind : Behind (f i) (m i) (f j) (m j) b
-    noted-behind = added_behind (f i) (f j) k b (x ∷ []) w.facts (omega (arith, e)) (omega arith) (m i) (m j) (ap (take b) w.stamps)
+    pub noted_behind : Behind (f i) (m i) (f j) (m j) b
+    noted_behind = added_behind (f i) (f j) k b (x ∷ []) w.facts (omega (arith, e)) (omega arith) (m i) (m j) (ap (take b) w.stamps)
 
   pub kept_behind : j ≡ i → Behind (f i) (m i) (f j) (m j) b
   kept_behind e = subst (λ (k : J). Behind (f i) (m i) (f k) (m k) b) (sym e) (behind_self (f i) (m i) b)

@@ -35,30 +35,30 @@ ok_walk (Ok _) e = refl
 ok_walk (Err n) e = absurd (let z : ◌≡◌ {A = ℕ} 0 1 = cc in omega arith)
 
 module _ (D : Declarations) (ns : List Node) where
-  abbrev rootWalk : Result (Unit {0}) ℕ
-  rootWalk = walk Search D (formula_at ns (root_of ns)) none
+  abbrev root_walk : Result (Unit {0}) ℕ
+  root_walk = walk Search D (formula_at ns (root_of ns)) none
 
-  pub accepted_if : Formed D ns → rootWalk ≡ Ok tt → Accepted D ns
+  pub accepted_if : Formed D ns → root_walk ≡ Ok tt → Accepted D ns
   accepted_if f w = record { formed = f; moded = sym (walk_tells Search D (formula_at ns (root_of ns)) none) ∙ ap is_ok w }
 
   pub unrefused : Accepted D ns → refusal_of D ns ≡ None
   unrefused a =
-      ap (λ (o : Option Refusal). option_or o (of_walk rootWalk)) ((refused_unless_formed D ns).0 a.formed)
-      ∙ ok_walk rootWalk (walk_tells Search D (formula_at ns (root_of ns)) none ∙ a.moded)
+      ap (λ (o : Option Refusal). option_or o (of_walk root_walk)) ((refused_unless_formed D ns).0 a.formed)
+      ∙ ok_walk root_walk (walk_tells Search D (formula_at ns (root_of ns)) none ∙ a.moded)
 
   accepted : refusal_of D ns ≡ None → Accepted D ns
   accepted e = record {
     formed = (refused_unless_formed D ns).1 (or_left _ _ e);
-    moded = sym (walk_tells Search D (formula_at ns (root_of ns)) none) ∙ walk_ok rootWalk (or_right (first (form_questions D ns)) _ e);
+    moded = sym (walk_tells Search D (formula_at ns (root_of ns)) none) ∙ walk_ok root_walk (or_right (first (form_questions D ns)) _ e);
   }
 
   -- the two refusals of the check, and its acceptance
   pub form_refusal : (x : Refusal) → Some x ≡ first (form_questions D ns) → Some x ≡ refusal_of D ns
-  form_refusal x e = ap (λ (o : Option Refusal). option_or o (of_walk rootWalk)) e
+  form_refusal x e = ap (λ (o : Option Refusal). option_or o (of_walk root_walk)) e
 
-  pub mode_refusal : (n : ℕ) → None ≡ first (form_questions D ns) → Err n ≡ rootWalk → Some (refusal_at NotSearchable n) ≡ refusal_of D ns
+  pub mode_refusal : (n : ℕ) → None ≡ first (form_questions D ns) → Err n ≡ root_walk → Some (refusal_at NotSearchable n) ≡ refusal_of D ns
   mode_refusal n e w =
-      ap of_walk w ∙ ap (λ (o : Option Refusal). option_or o (of_walk rootWalk)) e
+      ap of_walk w ∙ ap (λ (o : Option Refusal). option_or o (of_walk root_walk)) e
 
   pub refused : (x : Refusal) → Some x ≡ refusal_of D ns → Decides false (Accepted D ns)
   refused x e = (λ b. absurd (let z : ◌≡◌ {A = ℕ} 0 1 = cc in omega arith), λ a. absurd (never x (e ∙ unrefused a)))

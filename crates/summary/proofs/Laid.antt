@@ -168,8 +168,8 @@ module _ (cs : List (Option ℕ)) (n k : ℕ) (rs : List Row) (lies : n < length
   more_long r = length-append mine (r ∷ []) ∙ ap (λ (j : ℕ). j + 1) mine_long
 
   module _ (r : Row) (after : List Row) (e : after ≡ put_in (before n cs + k) r rs) where
-    pub kept-others : (m : ℕ) → (m ≡ n → ⊥) → laid (set cs n (Some (k + 1))) after m ≡ laid cs rs m
-    kept-others = others cs n (Some (k + 1)) rs (mine ++ (r ∷ [])) after (more_long r) lies (omega (arith, fits)) (e ∙ put_is r)
+    pub kept_others : (m : ℕ) → (m ≡ n → ⊥) → laid (set cs n (Some (k + 1))) after m ≡ laid cs rs m
+    kept_others = others cs n (Some (k + 1)) rs (mine ++ (r ∷ [])) after (more_long r) lies (omega (arith, fits)) (e ∙ put_is r)
 
     pub kept_here : laid (set cs n (Some (k + 1))) after n ≡ added (laid cs rs n) r
     kept_here = here cs n (Some (k + 1)) rs (mine ++ (r ∷ [])) after (more_long r) lies (omega (arith, fits)) (e ∙ put_is r) (ap Some (sym (more_long r)))
@@ -192,15 +192,15 @@ module _ (cs : List (Option ℕ)) (n k : ℕ) (rs : List Row) (lies : n < length
       ∙ ap (λ (l : List Row). take (before n cs) rs ++ l) (raised_left mine (drop (before n cs + k) rs) i (omega (arith, l, mine_long)) ∙ tail_is (raised_at mine i))
 
   module _ (i : ℕ) (l : i < k) (after : List Row) (e : after ≡ raised_at rs (before n cs + i)) where
-    same-counts : set cs n (Some k) ≡ cs
-    same-counts = ap (set cs n) (sym is) ∙ set-get_or cs n (Some 0)
+    same_counts : set cs n (Some k) ≡ cs
+    same_counts = ap (set cs n) (sym is) ∙ set-get_or cs n (Some 0)
 
-    pub long-others : (m : ℕ) → (m ≡ n → ⊥) → laid cs after m ≡ laid cs rs m
-    long-others m ne = ap (λ (c : List (Option ℕ)). laid c after m) (sym same-counts)
+    pub long_others : (m : ℕ) → (m ≡ n → ⊥) → laid cs after m ≡ laid cs rs m
+    long_others m ne = ap (λ (c : List (Option ℕ)). laid c after m) (sym same_counts)
         ∙ others cs n (Some k) rs (raised_at mine i) after (raised_long mine i ∙ mine_long) lies (omega (arith, fits)) (e ∙ raise_is i l) m ne
 
-    pub long-here : laid cs after n ≡ longer (laid cs rs n) i
-    long-here = ap (λ (c : List (Option ℕ)). laid c after n) (sym same-counts)
+    pub long_here : laid cs after n ≡ longer (laid cs rs n) i
+    long_here = ap (λ (c : List (Option ℕ)). laid c after n) (sym same_counts)
         ∙ here cs n (Some k) rs (raised_at mine i) after (raised_long mine i ∙ mine_long) lies (omega (arith, fits)) (e ∙ raise_is i l) (ap Some (sym (raised_long mine i ∙ mine_long)))
         ∙ ap (λ (o : Option (List Row)). longer o i) (sym held_is)
 

@@ -45,10 +45,10 @@ module _ (t : RowTable) where
 
   -- two tables of the same rows and counts are the same
   module _ (i : ℕ) (w : Row) where
-    pub same-table : (s s' : length t.counts ≡ 32) (p p' : vec_len (with_item t.rows i w) ≡ before 32 t.counts) (q q' : vec_len (with_item t.rows i w) ≤ 512) (r r' : 512 ≤ vec_capacity (with_item t.rows i w))
+    pub same_table : (s s' : length t.counts ≡ 32) (p p' : vec_len (with_item t.rows i w) ≡ before 32 t.counts) (q q' : vec_len (with_item t.rows i w) ≤ 512) (r r' : 512 ≤ vec_capacity (with_item t.rows i w))
         → ◌≡◌ {A = RowTable} (record { rows = with_item t.rows i w; counts = t.counts; sized = s; counted = p; few = q; reserved = r })
         (record { rows = with_item t.rows i w; counts = t.counts; sized = s'; counted = p'; few = q'; reserved = r' })
-    same-table s s' p p' q q' r r' = λ j. record {
+    same_table s s' p p' q q' r r' = λ j. record {
       rows = with_item t.rows i w;
       counts = t.counts;
       sized = ≡_prop coded_ℕ (length t.counts) 32 s s' j;

@@ -81,22 +81,22 @@ all_turns f ns h = turns_back f 0 ns (λ i l. none_broken (f i) (h i l) ∙ ap (
 
 -- the rules that are kept, from the questions and back
 module _ (D : Declarations) (ns : List Node) where
-  abbrev ofNodes : List Question
-  ofNodes = in_turn (of_node D ns) 0 ns
+  abbrev of_nodes : List Question
+  of_nodes = in_turn (of_node D ns) 0 ns
 
-  abbrev ofAllParents : List Question
-  ofAllParents = in_turn (of_parents ns) 0 ns
+  abbrev of_all_parents : List Question
+  of_all_parents = in_turn (of_parents ns) 0 ns
 
-  abbrev ofAllBindings : List Question
-  ofAllBindings = in_turn (of_bindings ns) 0 ns
+  abbrev of_all_bindings : List Question
+  of_all_bindings = in_turn (of_bindings ns) 0 ns
 
   formed : None ≡ first (form_questions D ns) → Formed D ns
   formed e =
-      let size : AllByRecursion (λ q. q.broken ≡ false) (of_size D ns) = unbroken (of_size D ns) (append_left (of_size D ns) (ofNodes ++ together ns) e) in
-      let p = append_right (of_size D ns) (ofNodes ++ together ns) e in
-      let q = append_right ofNodes (together ns) p in
-      let r = append_right ofAllParents (ofAllBindings ++ of_root ns) q in
-      let node : (i : ℕ) → i < length ns → AllByRecursion (λ q. q.broken ≡ false) (of_node D ns i) = each_turn (of_node D ns) ns (append_left ofNodes (together ns) p) in
+      let size : AllByRecursion (λ q. q.broken ≡ false) (of_size D ns) = unbroken (of_size D ns) (append_left (of_size D ns) (of_nodes ++ together ns) e) in
+      let p = append_right (of_size D ns) (of_nodes ++ together ns) e in
+      let q = append_right of_nodes (together ns) p in
+      let r = append_right of_all_parents (of_all_bindings ++ of_root ns) q in
+      let node : (i : ℕ) → i < length ns → AllByRecursion (λ q. q.broken ≡ false) (of_node D ns i) = each_turn (of_node D ns) ns (append_left of_nodes (together ns) p) in
       record {
         count = size.0;
         declarations = size.1.0;
@@ -104,17 +104,17 @@ module _ (D : Declarations) (ns : List Node) where
         descends = λ i h. (node i h).1.0;
         declared = λ i h. (node i h).1.1.0;
         intervals = λ i h. (node i h).1.1.1.0;
-        one_parent = λ i h. (each_turn (of_parents ns) ns (append_left ofAllParents (ofAllBindings ++ of_root ns) q) i h).0;
-        fresh = λ i h. (each_turn (of_bindings ns) ns (append_left ofAllBindings (of_root ns) r) i h).0;
-        closed = (unbroken (of_root ns) (append_right ofAllBindings (of_root ns) r)).0;
+        one_parent = λ i h. (each_turn (of_parents ns) ns (append_left of_all_parents (of_all_bindings ++ of_root ns) q) i h).0;
+        fresh = λ i h. (each_turn (of_bindings ns) ns (append_left of_all_bindings (of_root ns) r) i h).0;
+        closed = (unbroken (of_root ns) (append_right of_all_bindings (of_root ns) r)).0;
       }
 
   unrefused : Formed D ns → None ≡ first (form_questions D ns)
   unrefused h =
-      none_append (of_size D ns) (ofNodes ++ together ns) (none_broken (of_size D ns) (h.count, (h.declarations, tt)))
-      (none_append ofNodes (together ns) (all_turns (of_node D ns) ns (λ i l. (h.limits i l, (h.descends i l, (h.declared i l, (h.intervals i l, tt))))))
-      (none_append ofAllParents (ofAllBindings ++ of_root ns) (all_turns (of_parents ns) ns (λ i l. (h.one_parent i l, tt)))
-      (none_append ofAllBindings (of_root ns) (all_turns (of_bindings ns) ns (λ i l. (h.fresh i l, tt)))
+      none_append (of_size D ns) (of_nodes ++ together ns) (none_broken (of_size D ns) (h.count, (h.declarations, tt)))
+      (none_append of_nodes (together ns) (all_turns (of_node D ns) ns (λ i l. (h.limits i l, (h.descends i l, (h.declared i l, (h.intervals i l, tt))))))
+      (none_append of_all_parents (of_all_bindings ++ of_root ns) (all_turns (of_parents ns) ns (λ i l. (h.one_parent i l, tt)))
+      (none_append of_all_bindings (of_root ns) (all_turns (of_bindings ns) ns (λ i l. (h.fresh i l, tt)))
       (none_broken (of_root ns) (h.closed, tt)))))
 
 pub refused_unless_formed : RefusedUnlessFormed

@@ -2,7 +2,7 @@ use Rattle.std.proofs.Common.{◌≡◌, ℕ, ◌+◌, ◌<◌, ◌≤◌, min, 
 use Rattle.refusal.specs.declared.Refusal.{Refusal}
 use Rattle.journal.specs.Trace.{shown, late_answer}
 use Rattle.journal.specs.Layers.{own_place}
-use Rattle.journal.specs.Sessions.{owned, late_owned, late_unshown, noted-later, noted-behind, kept_behind, behind_self}
+use Rattle.journal.specs.Sessions.{owned, late_owned, late_unshown, noted_later, noted_behind, kept_behind, behind_self}
 use Rattle.journal.proofs.session.SessionJournal.late.Goals as goal
 
 pub returns-then-position-shown : goal.returns-then-position-shown
@@ -39,10 +39,10 @@ returns-in-Ok g c =
     record {
       does = record {
         answer = ap (λ r. owned r b) (below.answer ∙ ap (λ (n : ℕ). late_answer (m s.lower) n c.args.fact) ek) ∙ late_owned (m s.lower) b p c.args.fact l;
-        taken = λ _. noted-later f m s.lower j b le few p k c.args.fact ek (omega (arith, ek, l)) w _ e;
+        taken = λ _. noted_later f m s.lower j b le few p k c.args.fact ek (omega (arith, ek, l)) w _ e;
         refused = λ o. absurd (true≢false o);
       };
-      keeps = (c.late.ensures.keeps, e, noted-behind f m s.lower j b le few p k c.args.fact ek (omega (arith, ek, l)) w);
+      keeps = (c.late.ensures.keeps, e, noted_behind f m s.lower j b le few p k c.args.fact ek (omega (arith, ek, l)) w);
     }
 
 pub returns-in-Err : goal.returns-in-Err

@@ -1,6 +1,6 @@
 use Rattle.std.proofs.Common.{◌≡◌, ℕ, ◌+◌, ◌<◌, ◌≤◌, length, Some, vec_items, Option, unwrap_or, ap, ◌∙◌, arith, length-set}
 use Rattle.summary.specs.Layout.{before, put_in}
-use Rattle.summary.proofs.Laid.{behind_set, kept-others, kept_here}
+use Rattle.summary.proofs.Laid.{behind_set, kept_others, kept_here}
 use Rattle.summary.proofs.Tables.{inside_of, long}
 use Rattle.summary.proofs.row_table.RowTable.keep.Goals as goal
 
@@ -39,6 +39,6 @@ returns c =
     let l : n < length t.counts = omega (arith, c.requires.node, t.sized) in
     let f : before n t.counts + k ≤ length rs = omega (arith, inside_of t n k c.requires.node c.requires.count, long t) in
     record {
-      others = kept-others t.counts n k rs l c.requires.count f c.args.row after e;
+      others = kept_others t.counts n k rs l c.requires.count f c.args.row after e;
       here = kept_here t.counts n k rs l c.requires.count f c.args.row after e;
     }

@@ -3,7 +3,7 @@ use Rattle.summary.specs.declared.row.Row.{Row}
 use Rattle.summary.specs.Kept.{raised, raised_at}
 use Rattle.summary.specs.Layout.{before, count_of, no_row}
 use Rattle.summary.proofs.Raising.{raised_set}
-use Rattle.summary.proofs.Laid.{place_some, place_none, long-others, long-here, long_none, count_some}
+use Rattle.summary.proofs.Laid.{place_some, place_none, long_others, long_here, long_none, count_some}
 use Rattle.summary.proofs.Tables.{exists, inside, long}
 use Rattle.summary.proofs.row_table.RowTableKeeper.lengthen.Goals as goal
 
@@ -32,8 +32,8 @@ returns-in-Some c =
     ∙ ap (raised_at rs) p.1 in
     let is = count_some (count_of t.counts n) i p.0 in
     record {
-      others = long-others t.counts n k rs l is f i p.0 _ e;
-      here = long-here t.counts n k rs l is f i p.0 _ e;
+      others = long_others t.counts n k rs l is f i p.0 _ e;
+      here = long_here t.counts n k rs l is f i p.0 _ e;
     }
 
 pub returns-in_default : goal.returns-in_default

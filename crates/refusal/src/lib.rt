@@ -4,10 +4,11 @@
 ghost use Rattle.std.specs.Prelude.{◌≡◌, Some};
 ghost use Rattle.refusal.specs.Causes.{number_of, layer_of, words_of, name_of, refusal_at, printed};
 
+use std::error::Error;
 use std::fmt;
 
 /// The part of the monitor that refused.
-#[derive(Clone, Copy)]
+#[derive(Clone, Copy, PartialEq, Eq, Debug)]
 pub enum Layer {
     Table,
     Mode,
@@ -17,27 +18,27 @@ pub enum Layer {
 }
 
 /// Why a call was refused. The list is closed: no call refuses for another reason.
-#[derive(Clone, Copy)]
+#[derive(Clone, Copy, PartialEq, Eq, Debug)]
 pub enum Cause {
-    NodeCount,
-    OverLimit,
-    ChildNotBelow,
-    NotDeclared,
-    BadInterval,
-    NotOneParent,
-    BoundBefore,
-    FreeAtRoot,
-    NotSearchable,
-    UnknownBelow,
-    TooManyShown,
-    BadFact,
-    StampTooLow,
-    NoRoom,
-    MonitorFull,
-    NotShown,
-    BufferShort,
-    NotKnown,
-    ValueAbsent,
+    NodeCount = 1,
+    OverLimit = 2,
+    ChildNotBelow = 3,
+    NotDeclared = 4,
+    BadInterval = 5,
+    NotOneParent = 6,
+    BoundBefore = 7,
+    FreeAtRoot = 8,
+    NotSearchable = 9,
+    UnknownBelow = 10,
+    TooManyShown = 11,
+    BadFact = 12,
+    StampTooLow = 13,
+    NoRoom = 14,
+    MonitorFull = 15,
+    NotShown = 16,
+    BufferShort = 17,
+    NotKnown = 18,
+    ValueAbsent = 19,
 }
 
 impl Layer {
@@ -65,27 +66,7 @@ impl Cause {
     pub fn number(self) -> u8
         ensures { result ≡ number_of self }
     {
-        match self {
-            Cause::NodeCount => 1,
-            Cause::OverLimit => 2,
-            Cause::ChildNotBelow => 3,
-            Cause::NotDeclared => 4,
-            Cause::BadInterval => 5,
-            Cause::NotOneParent => 6,
-            Cause::BoundBefore => 7,
-            Cause::FreeAtRoot => 8,
-            Cause::NotSearchable => 9,
-            Cause::UnknownBelow => 10,
-            Cause::TooManyShown => 11,
-            Cause::BadFact => 12,
-            Cause::StampTooLow => 13,
-            Cause::NoRoom => 14,
-            Cause::MonitorFull => 15,
-            Cause::NotShown => 16,
-            Cause::BufferShort => 17,
-            Cause::NotKnown => 18,
-            Cause::ValueAbsent => 19,
-        }
+        self as u8
     }
 
     pub fn layer(self) -> Layer
@@ -138,20 +119,37 @@ impl Cause {
 }
 
 /// A refused call: the cause, and the place that it names (a node, a position, a fact's index, ..).
-#[derive(Clone, Copy)]
+#[derive(Clone, Copy, PartialEq, Eq, Debug)]
 pub struct Refusal {
     pub cause: Cause,
     pub place: usize,
+}
+
+impl fmt::Display for Layer {
+    ghost output = { λ layer. Some (name_of layer) };
+
+    fn fmt<W: fmt::Write>(&self, f: &mut fmt::Formatter<W>) -> fmt::Result {
+        f.write_str(self.name())
+    }
+}
+
+impl fmt::Display for Cause {
+    ghost output = { λ cause. Some (words_of cause) };
+
+    fn fmt<W: fmt::Write>(&self, f: &mut fmt::Formatter<W>) -> fmt::Result {
+        f.write_str(self.words())
+    }
 }
 
 impl fmt::Display for Refusal {
     ghost output = { λ r. Some (printed r) };
 
     fn fmt<W: fmt::Write>(&self, f: &mut fmt::Formatter<W>) -> fmt::Result {
-        let number = self.cause.number();
-        let layer = self.cause.layer().name();
-        let place = self.place;
-        let words = self.cause.words();
-        write!(f, "refused {number} {layer} at {place} ({words})")
+        let Refusal { cause, place } = *self;
+        let number = cause.number();
+        let layer = cause.layer();
+        write!(f, "refused {number} {layer} at {place} ({cause})")
     }
 }
+
+impl Error for Refusal {}

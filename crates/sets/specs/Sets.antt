@@ -1,5 +1,6 @@
 -- Sets of numbers, by their characteristic functions. Of a set of variables or of arguments the numbers 0 to 7 count.
-use Rattle.std.specs.Prelude.{ℕ, ◌/◌, ◌%◌, ◌^◌, Bool, false, not, ◌&&◌, ◌||◌, ◌==◌, nat_lt}
+use Rattle.std.specs.Prelude.{ℕ, Bool, false, not, ◌&&◌, ◌||◌, ◌==◌, nat_lt}
+use Rattle.std.specs.Int.{bit_at}
 use Rattle.sets.specs.declared.SmallSet.{SmallSet}
 
 infixl 40 ◌∪◌ ◌∩◌ ◌∖◌
@@ -9,7 +10,7 @@ NumberSet = ℕ → Bool
 
 -- the numbers whose bits are set, the lowest bit for 0
 unfoldable pub members : SmallSet → NumberSet
-members s v = s.mask / 2 ^ v % 2 == 1
+members s v = bit_at s.mask v == 1
 
 unfoldable pub none : NumberSet
 none v = false

@@ -5,11 +5,21 @@ ghost use Rattle.std.specs.Prelude.{◌≡◌, min, if◌then◌else◌, nat_lt}
 ghost use Rattle.sets.specs.Sets.{members, none, ◌∪◌, ◌∩◌, ◌∖◌, single, below, empty, ◌⊆◌, meets};
 
 /// A set of numbers from 0 to 7.
-#[derive(Clone, Copy)]
+#[derive(Clone, Copy, PartialEq, Eq, Debug)]
 pub struct SmallSet {
     mask: u8,
 }
 
+/// The set of the numbers whose bits are set in a byte, the lowest bit for 0.
+impl From<u8> for SmallSet {
+    ghost from_gives = { λ mask s. s.mask ≡ mask };
+
+    fn from(mask: u8) -> SmallSet {
+        SmallSet { mask }
+    }
+}
+
+#[tactic(auto, using(crate::proofs::Masks::masks))]
 impl SmallSet {
     /// The empty set.
     pub fn none() -> SmallSet
@@ -18,18 +28,10 @@ impl SmallSet {
         SmallSet { mask: 0 }
     }
 
-    /// The set of the numbers whose bits are set in `mask`, the lowest bit for 0.
-    pub fn from_mask(mask: u8) -> SmallSet
-        ensures { result.mask ≡ mask }
-    {
-        SmallSet { mask }
-    }
-
     pub fn contains(self, number: u8) -> bool
         ensures { result ≡ members self number }
     {
-        let mask = self.mask;
-        number < 8 && (mask >> number) % 2 == 1
+        number < 8 && (self.mask >> number) % 2 == 1
     }
 
     pub fn is_empty(self) -> bool

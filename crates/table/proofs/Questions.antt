@@ -1,62 +1,53 @@
 -- The questions that are asked of a table: the first rule that is broken, part by part.
-use Rattle.std.proofs.Common.{◌≡◌, ℕ, zero, suc, ◌+◌, ◌<◌, ◌≤◌, Bool, true, false, cond, List, [], ◌∷◌, ◌++◌, length, drop, IfOk, Some, None, Ok, Err, Result, sym, refl, ap, ◌∙◌, arith}
+use Rattle.std.proofs.Common.{◌≡◌, ℕ, zero, suc, ◌+◌, ◌<◌, ◌≤◌, false, List, [], ◌∷◌, ◌++◌, length, drop, IfOk, Some, None, Ok, Err, Result, sym, refl, ap, ◌∙◌, arith}
 use Rattle.std.specs.List.{AllByRecursion}
 use Rattle.std.proofs.lemmas.List.{at_drop_more, at_drop_all}
 use Rattle.std.specs.Result.{result_err}
 use Rattle.refusal.specs.declared.Refusal.{Refusal}
 use Rattle.table.specs.declared.node.Node.{Node}
 use Rattle.table.specs.declared.node.Node.TheVariants.{True}
-use Rattle.table.specs.Form.{Declarations, Question, first, in_turn, of_size, of_node, of_parents, of_bindings, of_root, together, form_questions}
+use Rattle.table.specs.Form.{Declarations, Descends, Question, first, in_turn, of_size, of_node, of_parents, of_bindings, of_root, together, form_questions}
 use Rattle.table.specs.Formed.{Formed, RefusedUnlessFormed}
 
 pub first_past : (qs rs : List Question) → None ≡ first qs → first (qs ++ rs) ≡ first rs
 first_past [] rs e = refl
-first_past (q ∷ qs) rs e = past_one q.broken (λ (f : None ≡ first qs). first_past qs rs f) e where
-  past_one : (b : Bool) → (None ≡ first qs → first (qs ++ rs) ≡ first rs) → None ≡ cond b (Some q.refusal) (first qs) → cond b (Some q.refusal) (first (qs ++ rs)) ≡ first rs
-  past_one true k e = absurd (let z : ◌≡◌ {A = ℕ} 0 1 = cc in omega arith)
-  past_one false k e = k e
+first_past (q ∷ qs) rs e = grind (arith, first_past qs rs)
 
 pub first_stop : (qs rs : List Question) (x : Refusal) → Some x ≡ first qs → first (qs ++ rs) ≡ Some x
-first_stop [] rs x e = absurd (let z : ◌≡◌ {A = ℕ} 0 1 = cc in omega arith)
-first_stop (q ∷ qs) rs x e = stop_one q.broken (λ (f : Some x ≡ first qs). first_stop qs rs x f) e where
-  stop_one : (b : Bool) → (Some x ≡ first qs → first (qs ++ rs) ≡ Some x) → Some x ≡ cond b (Some q.refusal) (first qs) → cond b (Some q.refusal) (first (qs ++ rs)) ≡ Some x
-  stop_one true k e = sym e
-  stop_one false k e = k e
+first_stop [] rs x e = grind arith
+first_stop (q ∷ qs) rs x e = grind (arith, first_stop qs rs x)
 
-module _ (f : ℕ → List Question) (ns : List Node) (i : ℕ) (inv : first (in_turn f i (drop i ns)) ≡ first (in_turn f 0 ns)) where
-  here : i < length ns → first (f i ++ in_turn f (i + 1) (drop (i + 1) ns)) ≡ first (in_turn f 0 ns)
-  here h = sym (at_drop_more (λ (l : List Node). first (in_turn f i l)) ns i True h) ∙ inv
+-- what is asked of the nodes from the node i on
+module _ (f : ℕ → List Question) (ns : List Node) (i : ℕ) where
+  here : i < length ns → first (in_turn f i (drop i ns)) ≡ first (f i ++ in_turn f (i + 1) (drop (i + 1) ns))
+  here h = at_drop_more (λ (l : List Node). first (in_turn f i l)) ns i True h
 
-  pub turn_next : i < length ns → None ≡ first (f i) → first (in_turn f (i + 1) (drop (i + 1) ns)) ≡ first (in_turn f 0 ns)
-  turn_next h e = sym (first_past (f i) (in_turn f (i + 1) (drop (i + 1) ns)) e) ∙ here h
+  pub turn_next : i < length ns → None ≡ first (f i) → first (in_turn f i (drop i ns)) ≡ first (in_turn f (i + 1) (drop (i + 1) ns))
+  turn_next h e = here h ∙ first_past (f i) (in_turn f (i + 1) (drop (i + 1) ns)) e
 
-  pub turn_stop : (x : Refusal) → i < length ns → Some x ≡ first (f i) → Some x ≡ first (in_turn f 0 ns)
-  turn_stop x h e = sym (first_stop (f i) (in_turn f (i + 1) (drop (i + 1) ns)) x e) ∙ here h
+  pub turn_stop : (x : Refusal) → i < length ns → Some x ≡ first (f i) → first (in_turn f i (drop i ns)) ≡ Some x
+  turn_stop x h e = here h ∙ first_stop (f i) (in_turn f (i + 1) (drop (i + 1) ns)) x e
 
-  pub turn_done : length ns ≤ i → None ≡ first (in_turn f 0 ns)
-  turn_done h = sym (at_drop_all (λ (l : List Node). first (in_turn f i l)) ns i h) ∙ inv
+  pub turn_done : length ns ≤ i → first (in_turn f i (drop i ns)) ≡ None
+  turn_done h = at_drop_all (λ (l : List Node). first (in_turn f i l)) ns i h
+
+pub ruleset each_asked = (turn_next, turn_stop, turn_done)
 
 -- no rule is broken
 pub unbroken : (qs : List Question) → None ≡ first qs → AllByRecursion (λ q. q.broken ≡ false) qs
 unbroken [] e = tt
-unbroken (q ∷ qs) e = whole q.broken (λ (f : None ≡ first qs). unbroken qs f) e where
-  whole : (b : Bool) → (None ≡ first qs → AllByRecursion (λ q. q.broken ≡ false) qs) → None ≡ cond b (Some q.refusal) (first qs) → (b ≡ false) × AllByRecursion (λ q. q.broken ≡ false) qs
-  whole true k e = absurd (let z : ◌≡◌ {A = ℕ} 0 1 = cc in omega arith)
-  whole false k e = (refl, k e)
+unbroken (q ∷ qs) e = (grind arith, unbroken qs (grind arith))
 
 none_broken : (qs : List Question) → AllByRecursion (λ q. q.broken ≡ false) qs → None ≡ first qs
 none_broken [] h = refl
-none_broken (q ∷ qs) h = none_broken qs h.1 ∙ sym (ap (λ (b : Bool). cond b (Some q.refusal) (first qs)) h.0)
+none_broken (q ∷ qs) h = grind (arith, h.0, none_broken qs h.1)
 
 none_append : (qs rs : List Question) → None ≡ first qs → None ≡ first rs → None ≡ first (qs ++ rs)
 none_append qs rs p q = q ∙ sym (first_past qs rs p)
 
 append_left : (qs rs : List Question) → None ≡ first (qs ++ rs) → None ≡ first qs
 append_left [] rs e = refl
-append_left (q ∷ qs) rs e = left_one q.broken (λ (f : None ≡ first (qs ++ rs)). append_left qs rs f) e where
-  left_one : (b : Bool) → (None ≡ first (qs ++ rs) → None ≡ first qs) → None ≡ cond b (Some q.refusal) (first (qs ++ rs)) → None ≡ cond b (Some q.refusal) (first qs)
-  left_one true k e = e
-  left_one false k e = k e
+append_left (q ∷ qs) rs e = grind (arith, append_left qs rs)
 
 append_right : (qs rs : List Question) → None ≡ first (qs ++ rs) → None ≡ first rs
 append_right qs rs e = e ∙ first_past qs rs (append_left qs rs e)
@@ -69,6 +60,9 @@ turns f n (x ∷ xs) e (suc i) h = turns f (n + 1) xs (append_right (f n) (in_tu
 
 pub each_turn : (f : ℕ → List Question) (ns : List Node) → None ≡ first (in_turn f 0 ns) → (i : ℕ) → i < length ns → AllByRecursion (λ q. q.broken ≡ false) (f i)
 each_turn f ns e i h = unbroken (f i) (turns f 0 ns e i h ∙ ap (λ (m : ℕ). first (f m)) (omega arith))
+
+pub descends : (D : Declarations) (ns : List Node) → None ≡ first (in_turn (of_node D ns) 0 ns) → Descends ns
+descends D ns e i h = (each_turn (of_node D ns) ns e i h).1.0
 
 turns_back : (f : ℕ → List Question) (n : ℕ) (xs : List Node) → ((i : ℕ) → i < length xs → None ≡ first (f (n + i))) → None ≡ first (in_turn f n xs)
 turns_back f n [] h = refl
@@ -123,3 +117,6 @@ refused_unless_formed D ns = (λ h. sym (unrefused D ns h), λ e. formed D ns (s
 pub made_if_unrefused : {X : Type 0} (D : Declarations) (ns : List Node) (r : Result X Refusal) → result_err r ≡ first (form_questions D ns) → IfOk r (λ _. Formed D ns)
 made_if_unrefused D ns (Ok x) e = formed D ns e
 made_if_unrefused D ns (Err x) e = tt
+
+-- what a table that is asked part by part answers
+pub ruleset parts = (first_past, first_stop, descends, made_if_unrefused)

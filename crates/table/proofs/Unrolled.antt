@@ -1,6 +1,6 @@
 -- The formula of a node, by those of its children, which come before it.
-use Rattle.std.proofs.Common.{◌≡◌, ℕ, zero, suc, ◌+◌, ◌<◌, ◌≤◌, false, leb, List, [], ◌∷◌, ◌++◌, length, get_or, set, sym, refl, ap, ◌∙◌, arith, length-append}
-use Rattle.std.specs.List.{AllByRecursion}
+use Rattle.std.proofs.Common.{◌≡◌, ℕ, zero, suc, ◌+◌, ◌<◌, ◌≤◌, false, leb, List, [], ◌∷◌, ◌++◌, length, get_or, take, set, length-take, get_or-take, sym, refl, ap, ◌∙◌, arith, length-append}
+use Rattle.std.specs.List.{AllByRecursion, list_any}
 use Rattle.std.proofs.lemmas.List.{get_or_append_left, get_or_at, get_or_past}
 use Rattle.std.proofs.lemmas.Bool.{leb-false, or_parts}
 use Rattle.sets.specs.declared.SmallSet.{SmallSet}
@@ -9,12 +9,12 @@ use Rattle.table.specs.declared.node.Node.TheVariants.{True, False, Atom, And, O
 use Rattle.sets.specs.Sets.{members}
 use Rattle.table.specs.Formula.{Formula, verum, exists, prev, once, hist, next, event, always, free, formula_of, onward, formulas, formula_at, FreeUpTo}
 use Rattle.table.proofs.Loops.{fill_more}
-use Rattle.table.specs.Form.{some, children, not_below, node_at}
+use Rattle.table.specs.Form.{children, not_below, node_at}
 
 -- the children of a node that keeps rule 3
-all_below : (i : ℕ) (xs : List ℕ) → some (λ c. leb i c) xs ≡ false → AllByRecursion (λ c. c < i) xs
+all_below : (i : ℕ) (xs : List ℕ) → list_any (λ c. leb i c) xs ≡ false → AllByRecursion (λ c. c < i) xs
 all_below i [] e = tt
-all_below i (x ∷ xs) e = let p = or_parts (leb i x) (some (λ c. leb i c) xs) e in (leb-false i x p.0, all_below i xs p.1)
+all_below i (x ∷ xs) e = let p = or_parts (leb i x) (list_any (λ c. leb i c) xs) e in (leb-false i x p.0, all_below i xs p.1)
 
 pub children_below : (i : ℕ) (x : Node) → not_below i x ≡ false → AllByRecursion (λ c. c < i) (children x)
 children_below i x e = all_below i (children x) e
@@ -66,10 +66,12 @@ pub unrolled : (ns : List Node) (n : ℕ) → n < length ns → not_below n (nod
 unfolding formulas
 unrolled ns n lt ok = each [] ns n n (omega arith) lt (children_below n (node_at ns n) ok)
 
--- the free variables of one node more
-pub free_more : (ss : List SmallSet) (ns : List Node) (i : ℕ) (s : SmallSet) → i < length ns → i < length ss → not_below i (node_at ns i) ≡ false → FreeUpTo ss i (formulas ns) → members s ≡ free (formula_of (formulas ns) i (node_at ns i)) → FreeUpTo (set ss i s) (i + 1) (formulas ns)
-free_more ss ns i s h k ok inv e =
-    fill_more (λ (j : ℕ) (x : SmallSet). members x ≡ free (formula_at ns j)) ss (record { mask = 0 }) s i k inv (e ∙ ap free (sym (unrolled ns i h ok)))
+-- the free variables of one node more, from those of the nodes before it
+pub free_more : (ss : List SmallSet) (ns : List Node) (i : ℕ) (s : SmallSet) → i < length ns → i < length ss → not_below i (node_at ns i) ≡ false → FreeUpTo ss i (formulas ns) → ((fs : List Formula) → FreeUpTo (take i ss) (length (take i ss)) fs → members s ≡ free (formula_of fs (length (take i ss)) (node_at ns i))) → FreeUpTo (set ss i s) (i + 1) (formulas ns)
+free_more ss ns i s h k ok inv given =
+    let is : length (take i ss) ≡ i = omega (arith, length-take i ss) in
+    let here = given (formulas ns) (λ j l. ap members (get_or-take i ss j (record { mask = 0 }) (omega arith)) ∙ inv j (omega arith)) ∙ ap (λ (n : ℕ). free (formula_of (formulas ns) n (node_at ns i))) is in
+    fill_more (λ (j : ℕ) (x : SmallSet). members x ≡ free (formula_at ns j)) ss (record { mask = 0 }) s i k inv (here ∙ ap free (sym (unrolled ns i h ok)))
 
 -- there is a formula for each node, and none past the last
 length_onward : (done : List Formula) (xs : List Node) → length (onward done xs) ≡ length done + length xs

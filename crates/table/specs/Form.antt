@@ -1,6 +1,6 @@
 -- The form rules of a table, each as a test that is true where the rule is broken, and the order in which they are asked.
-use Rattle.std.specs.Prelude.{ℕ, ◌+◌, Bool, true, false, cond, not, ◌&&◌, ◌||◌, ltb, leb, List, [], ◌∷◌, ◌++◌, length, take, Some, None, Option, ◌==◌, nat_lt, slice_index_or}
-use Rattle.std.specs.List.{flat_map}
+use Rattle.std.specs.Prelude.{◌≡◌, ℕ, ◌+◌, ◌<◌, Bool, true, false, cond, not, ◌&&◌, ◌||◌, ltb, leb, List, [], ◌∷◌, ◌++◌, length, take, Some, None, Option, ◌==◌, nat_lt, slice_index_or}
+use Rattle.std.specs.List.{flat_map, list_any}
 use Rattle.refusal.specs.Causes.{refusal_at}
 use Rattle.refusal.specs.declared.Cause.{Cause}
 use Rattle.refusal.specs.declared.Cause.TheVariants.{NodeCount, OverLimit, ChildNotBelow, NotDeclared, BadInterval, NotOneParent, BoundBefore, FreeAtRoot}
@@ -11,17 +11,14 @@ use Rattle.table.specs.declared.node.Node.{Node}
 use Rattle.table.specs.declared.node.Node.TheVariants.{True, False, Atom, And, Or, Exists, Forall, Prev, Once, Hist, Next, Event, Always, Since, Until}
 use Rattle.table.specs.declared.node.Term.{Term}
 use Rattle.table.specs.declared.node.Term.TheVariants.{Variable, Constant}
-use Rattle.table.specs.declared.node.Terms.{Terms}
-use Rattle.table.specs.Formula.{free, arguments, formula_at, root_of}
+use Rattle.table.specs.Arguments.{kept}
+use Rattle.table.specs.declared.arguments.Arguments.{Arguments}
+use Rattle.table.specs.Formula.{free, formula_at, root_of}
 use Rattle.sets.specs.Sets.{NumberSet, members, none, ◌∪◌, below, empty, ◌⊆◌, meets}
 
 -- what is declared of each predicate, in the order of their numbers
 abbrev pub Declarations : Type 0
 Declarations = List (Option Declaration)
-
-abbrev pub some : {X : Type 0} → (X → Bool) → List X → Bool
-some p [] = false
-some p (x ∷ xs) = p x || some p xs
 
 -- how often k stands in a list
 abbrev pub times : ℕ → List ℕ → ℕ
@@ -52,21 +49,9 @@ children (Until i l r) = l ∷ r ∷ []
 
 -- the variables that a node binds
 abbrev pub bindings : Node → NumberSet
-bindings True = none
-bindings False = none
-bindings (Atom p ts) = none
-bindings (And l r) = none
-bindings (Or l r) = none
 bindings (Exists vs b) = members vs
 bindings (Forall vs l r) = members vs
-bindings (Prev i b) = none
-bindings (Once i b) = none
-bindings (Hist i b) = none
-bindings (Next i b) = none
-bindings (Event i b) = none
-bindings (Always i b) = none
-bindings (Since i l r) = none
-bindings (Until i l r) = none
+bindings _ = none
 
 -- rule 1: no nodes, or more than 32
 abbrev pub wrong_count : List Node → Bool
@@ -77,25 +62,12 @@ abbrev pub term_over : Term → Bool
 term_over (Variable v) = nat_lt 7 v
 term_over (Constant c) = false
 
-abbrev pub atom_over : ℕ → Terms → Bool
-atom_over p ts = nat_lt 63 p || (nat_lt 3 ts.count || some term_over (arguments ts))
+abbrev pub atom_over : ℕ → Arguments Term → Bool
+atom_over p ts = nat_lt 63 p || (nat_lt 3 ts.count || list_any term_over (kept ts))
 
 abbrev pub over_limit : Node → Bool
-over_limit True = false
-over_limit False = false
 over_limit (Atom p ts) = atom_over p ts
-over_limit (And l r) = false
-over_limit (Or l r) = false
-over_limit (Exists vs b) = false
-over_limit (Forall vs l r) = false
-over_limit (Prev i b) = false
-over_limit (Once i b) = false
-over_limit (Hist i b) = false
-over_limit (Next i b) = false
-over_limit (Event i b) = false
-over_limit (Always i b) = false
-over_limit (Since i l r) = false
-over_limit (Until i l r) = false
+over_limit _ = false
 
 abbrev pub declaration_over : Option Declaration → Bool
 declaration_over None = false
@@ -103,7 +75,11 @@ declaration_over (Some d) = nat_lt 3 d.count || not (members d.given ⊆ below d
 
 -- rule 3: a child that is not numbered below its parent, the node i
 abbrev pub not_below : ℕ → Node → Bool
-not_below i x = some (λ c. leb i c) (children x)
+not_below i x = list_any (λ c. leb i c) (children x)
+
+-- no node has such a child
+abbrev pub Descends : List Node → Type 0
+Descends ns = (i : ℕ) → i < length ns → not_below i (node_at ns i) ≡ false
 
 -- rule 4: a predicate that is not declared, or declared with another count
 abbrev pub declared_otherwise : Option Declaration → ℕ → Bool
@@ -111,21 +87,8 @@ declared_otherwise None count = true
 declared_otherwise (Some d) count = not (d.count == count)
 
 abbrev pub not_declared : Declarations → Node → Bool
-not_declared D True = false
-not_declared D False = false
 not_declared D (Atom p ts) = declared_otherwise (slice_index_or D p None) ts.count
-not_declared D (And l r) = false
-not_declared D (Or l r) = false
-not_declared D (Exists vs b) = false
-not_declared D (Forall vs l r) = false
-not_declared D (Prev i b) = false
-not_declared D (Once i b) = false
-not_declared D (Hist i b) = false
-not_declared D (Next i b) = false
-not_declared D (Event i b) = false
-not_declared D (Always i b) = false
-not_declared D (Since i l r) = false
-not_declared D (Until i l r) = false
+not_declared D _ = false
 
 -- rule 5: lo above hi; a future operator must have a hi, a past one need not
 abbrev pub past_over : Interval → Bool
@@ -135,21 +98,15 @@ abbrev pub future_over : Interval → Bool
 future_over i = elim i.hi [ None ↦ true | Some h ↦ ltb h i.lo ]
 
 abbrev pub bad_interval : Node → Bool
-bad_interval True = false
-bad_interval False = false
-bad_interval (Atom p ts) = false
-bad_interval (And l r) = false
-bad_interval (Or l r) = false
-bad_interval (Exists vs b) = false
-bad_interval (Forall vs l r) = false
 bad_interval (Prev i b) = past_over i
 bad_interval (Once i b) = past_over i
 bad_interval (Hist i b) = past_over i
+bad_interval (Since i l r) = past_over i
 bad_interval (Next i b) = future_over i
 bad_interval (Event i b) = future_over i
 bad_interval (Always i b) = future_over i
-bad_interval (Since i l r) = past_over i
 bad_interval (Until i l r) = future_over i
+bad_interval _ = false
 
 -- rule 6: a node that is not the root is exactly once a child
 abbrev pub parent_count : List Node → ℕ → ℕ
@@ -189,13 +146,16 @@ in_turn f i [] = []
 in_turn f i (x ∷ xs) = f i ++ in_turn f (i + 1) xs
 
 -- what is asked of the node i by itself
-abbrev pub of_node : Declarations → List Node → ℕ → List Question
-of_node D ns i =
-    ask OverLimit i (over_limit (node_at ns i))
-    ∷ ask ChildNotBelow i (not_below i (node_at ns i))
-    ∷ ask NotDeclared i (not_declared D (node_at ns i))
-    ∷ ask BadInterval i (bad_interval (node_at ns i))
+abbrev pub node_questions : Declarations → ℕ → Node → List Question
+node_questions D i x =
+    ask OverLimit i (over_limit x)
+    ∷ ask ChildNotBelow i (not_below i x)
+    ∷ ask NotDeclared i (not_declared D x)
+    ∷ ask BadInterval i (bad_interval x)
     ∷ []
+
+abbrev pub of_node : Declarations → List Node → ℕ → List Question
+of_node D ns i = node_questions D i (node_at ns i)
 
 abbrev pub of_parents : List Node → ℕ → List Question
 of_parents ns i = ask NotOneParent i (not_one_parent ns i) ∷ []
@@ -204,7 +164,7 @@ abbrev pub of_bindings : List Node → ℕ → List Question
 of_bindings ns i = ask BoundBefore i (bound_before ns i) ∷ []
 
 abbrev pub of_size : Declarations → List Node → List Question
-of_size D ns = ask NodeCount 0 (wrong_count ns) ∷ ask OverLimit 0 (some declaration_over D) ∷ []
+of_size D ns = ask NodeCount 0 (wrong_count ns) ∷ ask OverLimit 0 (list_any declaration_over D) ∷ []
 
 abbrev pub of_root : List Node → List Question
 of_root ns = ask FreeAtRoot (root_of ns) (free_at_root ns) ∷ []

@@ -1,15 +1,16 @@
 -- What a table keeps that no form rule refuses.
 use Rattle.std.specs.Prelude.{◌≡◌, ℕ, ◌<◌, false, List, length, None}
+use Rattle.std.specs.List.{list_any}
 use Rattle.table.specs.declared.node.Node.{Node}
 use Rattle.table.specs.Formula.{formula_at, formula_of, formulas}
-use Rattle.table.specs.Form.{Declarations, some, node_at, wrong_count, declaration_over, over_limit, not_below, not_declared, bad_interval, not_one_parent, bound_before, free_at_root, first, form_questions}
+use Rattle.table.specs.Form.{Declarations, node_at, wrong_count, declaration_over, over_limit, Descends, not_declared, bad_interval, not_one_parent, bound_before, free_at_root, first, form_questions}
 
 -- the table keeps every form rule
 pub record Formed (D : Declarations) (ns : List Node) : Type 0 where
   pub count : wrong_count ns ≡ false
-  pub declarations : some declaration_over D ≡ false
+  pub declarations : list_any declaration_over D ≡ false
   pub limits : (i : ℕ) → i < length ns → over_limit (node_at ns i) ≡ false
-  pub descends : (i : ℕ) → i < length ns → not_below i (node_at ns i) ≡ false
+  pub descends : Descends ns
   pub declared : (i : ℕ) → i < length ns → not_declared D (node_at ns i) ≡ false
   pub intervals : (i : ℕ) → i < length ns → bad_interval (node_at ns i) ≡ false
   pub one_parent : (i : ℕ) → i < length ns → not_one_parent ns i ≡ false

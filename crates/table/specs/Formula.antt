@@ -1,11 +1,11 @@
 -- Formulas of metric first-order temporal logic, and the formula that each node of a table stands for.
-use Rattle.std.specs.Prelude.{◌≡◌, ℕ, ◌+◌, ◌-◌, ◌<◌, Bool, cond, List, [], ◌∷◌, ◌++◌, length, take, nat_lt, slice_index_or}
+use Rattle.std.specs.Prelude.{◌≡◌, ℕ, ◌+◌, ◌-◌, ◌<◌, Bool, cond, List, [], ◌∷◌, ◌++◌, length, nat_lt, slice_index_or}
 use Rattle.table.specs.declared.node.Interval.{Interval}
 use Rattle.table.specs.declared.node.Node.{Node}
 use Rattle.table.specs.declared.node.Node.TheVariants.{True, False, Atom, And, Or, Exists, Forall, Prev, Once, Hist, Next, Event, Always, Since, Until}
 use Rattle.table.specs.declared.node.Term.{Term}
 use Rattle.table.specs.declared.node.Term.TheVariants.{Variable, Constant}
-use Rattle.table.specs.declared.node.Terms.{Terms}
+use Rattle.table.specs.Arguments.{kept}
 use Rattle.sets.specs.declared.SmallSet.{SmallSet}
 use Rattle.sets.specs.Sets.{NumberSet, members, none, ◌∪◌, ◌∖◌, single, below}
 
@@ -56,15 +56,11 @@ free (always n i b) = free b
 free (since n i l r) = free l ∪ free r
 free (until n i l r) = free l ∪ free r
 
--- the arguments of an atom: its first places, as many as it counts
-abbrev pub arguments : Terms → List Term
-arguments ts = take ts.count ts.places
-
 -- the formula of the node n, where the nodes before it stand for the formulas of `done`
 abbrev pub formula_of : List Formula → ℕ → Node → Formula
 formula_of done n True = verum n
 formula_of done n False = falsum n
-formula_of done n (Atom p ts) = atom n p (arguments ts)
+formula_of done n (Atom p ts) = atom n p (kept ts)
 formula_of done n (And l r) = and n (slice_index_or done l (verum 0)) (slice_index_or done r (verum 0))
 formula_of done n (Or l r) = or n (slice_index_or done l (verum 0)) (slice_index_or done r (verum 0))
 formula_of done n (Exists vs b) = exists n (members vs) (slice_index_or done b (verum 0))

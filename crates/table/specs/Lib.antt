@@ -1,3 +1,4 @@
+pub mod Arguments
 pub mod Formula
 pub mod Form
 pub mod Formed

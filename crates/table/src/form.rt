@@ -1,105 +1,73 @@
 //! The form rules: whether a table can be read as a formula at all.
-ghost use Rattle.std.specs.Prelude.{◌≡◌, ℕ, ◌+◌, ◌<◌, ◌≤◌, true, false, [], ◌∷◌, length, IfOk, Some, None, OnOk, slice_index_or};
+ghost use Rattle.std.specs.Prelude.{◌≡◌, ◌<◌, ◌≤◌, false, length, IfOk, Some, None, OnOk, slice_index_or};
 ghost use Rattle.std.specs.Result.{result_err};
+ghost use Rattle.std.specs.List.{list_any};
 ghost use Rattle.sets.specs.Sets.{members};
-ghost use Rattle.table.specs.Form.{some, times, children, bindings, over_limit, atom_over, declaration_over, not_below, not_declared, declared_otherwise, past_over, future_over, bad_interval, parent_count, node_at, wrong_count, first, in_turn, of_size, of_node, of_parents, of_bindings, of_root, together, form_questions};
+ghost use Rattle.table.specs.Form.{Descends, times, children, bindings, over_limit, atom_over, declaration_over, not_below, not_declared, bad_interval, parent_count, not_one_parent, wrong_count, first, in_turn, of_size, of_node, node_questions, of_parents, of_bindings, of_root, form_questions};
 ghost use Rattle.table.specs.Formed.{Formed, RefusedUnlessFormed, FormulasUnfold};
 ghost use Rattle.table.specs.Formula.{formulas, FreeUpTo};
 
 use crate::free::{FreeSets, free_sets};
-use crate::node::{Declaration, Interval, Node, Terms};
+use crate::node::{Declaration, Node, Terms};
+use crate::raw_table::Table;
 use crate::terms::some_over;
+use arrayvec::ArrayVec;
 use refusal::{Cause, Refusal};
 use sets::SmallSet;
 
-/// How often a node has `child` for an operand.
-pub fn times_in(node: Node, child: usize) -> usize
-    ensures is { result ≡ times child (children node) }
-    ensures few { result ≤ 2 }
+/// The operands of a node, left first.
+fn operands(node: Node) -> ArrayVec<usize, 2>
+    ensures { result.items ≡ children node }
 {
     match node {
-        Node::True | Node::False | Node::Atom { .. } => 0,
+        Node::True | Node::False | Node::Atom { .. } => ArrayVec::new(),
         Node::And { left, right }
         | Node::Or { left, right }
         | Node::Forall { left, right, .. }
         | Node::Since { left, right, .. }
-        | Node::Until { left, right, .. } => is_child(left, child) + is_child(right, child),
+        | Node::Until { left, right, .. } => ArrayVec::from([left, right]),
         Node::Exists { body, .. }
         | Node::Prev { body, .. }
         | Node::Once { body, .. }
         | Node::Hist { body, .. }
         | Node::Next { body, .. }
         | Node::Event { body, .. }
-        | Node::Always { body, .. } => is_child(body, child),
+        | Node::Always { body, .. } => {
+            let mut operands = ArrayVec::new();
+            operands.push(body);
+            operands
+        }
     }
 }
 
-fn is_child(operand: usize, child: usize) -> usize
-    ensures { result ≡ times child (operand ∷ []) }
+/// How often a node has `child` for an operand.
+#[tactic(auto, using(crate::proofs::Loops::count_by_times))]
+pub fn times_in(node: Node, child: usize) -> usize
+    ensures is { result ≡ times child (children node) }
+    ensures few { result ≤ 2 }
 {
-    if operand == child { 1 } else { 0 }
+    operands(node)
+        .iter()
+        .filter(|operand| **operand == child)
+        .count()
 }
 
 fn not_below(node: Node, i: usize) -> bool
     ensures { result ≡ not_below i node }
 {
-    match node {
-        Node::True | Node::False | Node::Atom { .. } => false,
-        Node::And { left, right }
-        | Node::Or { left, right }
-        | Node::Forall { left, right, .. }
-        | Node::Since { left, right, .. }
-        | Node::Until { left, right, .. } => left >= i || right >= i,
-        Node::Exists { body, .. }
-        | Node::Prev { body, .. }
-        | Node::Once { body, .. }
-        | Node::Hist { body, .. }
-        | Node::Next { body, .. }
-        | Node::Event { body, .. }
-        | Node::Always { body, .. } => body >= i,
-    }
+    operands(node).iter().any(|operand| *operand >= i)
 }
 
 fn atom_over(predicate: u8, terms: Terms) -> bool
     ensures { result ≡ atom_over predicate terms }
 {
-    predicate > 63 || terms.count > 3 || some_over(terms.arguments())
+    predicate > 63 || terms.count > 3 || some_over(terms.kept())
 }
 
 fn over_limit(node: Node) -> bool
     ensures { result ≡ over_limit node }
 {
-    match node {
-        Node::Atom { predicate, terms } => atom_over(predicate, terms),
-        _ => false,
-    }
-}
-
-fn declared_otherwise(declaration: Option<Declaration>, count: u8) -> bool
-    ensures { result ≡ declared_otherwise declaration count }
-{
-    match declaration {
-        Some(declaration) => declaration.count != count,
-        None => true,
-    }
-}
-
-fn past_over(interval: Interval) -> bool
-    ensures { result ≡ past_over interval }
-{
-    match interval.hi {
-        Some(hi) => interval.lo > hi,
-        None => false,
-    }
-}
-
-fn future_over(interval: Interval) -> bool
-    ensures { result ≡ future_over interval }
-{
-    match interval.hi {
-        Some(hi) => interval.lo > hi,
-        None => true,
-    }
+    matches!(node, Node::Atom { predicate, terms } if atom_over(predicate, terms))
 }
 
 fn bad_interval(node: Node) -> bool
@@ -109,15 +77,16 @@ fn bad_interval(node: Node) -> bool
         Node::Prev { interval, .. }
         | Node::Once { interval, .. }
         | Node::Hist { interval, .. }
-        | Node::Since { interval, .. } => past_over(interval),
+        | Node::Since { interval, .. } => interval.hi.is_some_and(|hi| interval.lo > hi),
         Node::Next { interval, .. }
         | Node::Event { interval, .. }
         | Node::Always { interval, .. }
-        | Node::Until { interval, .. } => future_over(interval),
+        | Node::Until { interval, .. } => interval.hi.is_none_or(|hi| interval.lo > hi),
         _ => false,
     }
 }
 
+/// The variables that a node binds.
 fn variables_bound(node: Node) -> SmallSet
     ensures { members result ≡ bindings node }
 {
@@ -127,177 +96,153 @@ fn variables_bound(node: Node) -> SmallSet
     }
 }
 
-fn declaration_over(declaration: Option<Declaration>) -> bool
-    ensures { result ≡ declaration_over declaration }
+fn declaration_over(declaration: Declaration) -> bool
+    ensures { result ≡ declaration_over (Some declaration) }
 {
-    match declaration {
-        Some(declaration) => {
-            declaration.count > 3 || !declaration.given.within(SmallSet::below(declaration.count))
-        }
-        None => false,
-    }
-}
-
-fn not_declared(node: Node, declarations: &[Option<Declaration>]) -> bool
-    ensures { result ≡ not_declared declarations.now node }
-{
-    match node {
-        Node::Atom { predicate, terms } => declared_otherwise(
-            declaration_of(declarations, predicate),
-            terms.count,
-        ),
-        _ => false,
-    }
+    declaration.count > 3 || !declaration.given.within(SmallSet::below(declaration.count))
 }
 
 /// What is declared of a predicate, nothing past the end.
 pub fn declaration_of(declarations: &[Option<Declaration>], predicate: u8) -> Option<Declaration>
     ensures { result ≡ slice_index_or declarations.now predicate None }
 {
-    let predicate = usize::from(predicate);
-    if predicate < declarations.len() {
-        declarations[predicate]
-    } else {
-        None
-    }
+    declarations.get(usize::from(predicate)).copied().flatten()
 }
 
-/// What the node i breaks by itself.
-fn check_node(nodes: &[Node], i: usize, declarations: &[Option<Declaration>]) -> Result<(), Refusal>
-    requires { i < length nodes.now }
-    ensures { result_err result ≡ first (of_node declarations.now nodes.now i) }
-{
-    let node = nodes[i];
-    if over_limit(node) {
-        Err(Cause::OverLimit.at(i))
-    } else if not_below(node, i) {
-        Err(Cause::ChildNotBelow.at(i))
-    } else if not_declared(node, declarations) {
-        Err(Cause::NotDeclared.at(i))
-    } else if bad_interval(node) {
-        Err(Cause::BadInterval.at(i))
-    } else {
-        Ok(())
+impl Table {
+    /// The free variables of each node, or the first form rule that the table breaks.
+    #[tactic(auto, using(crate::proofs::Questions::parts))]
+    pub fn check_form(&self) -> Result<FreeSets, Refusal>
+        ensures refusal { result_err result ≡ first (form_questions self.now.declarations self.now.nodes.items) }
+        ensures formed { OnOk result (Formed self.now.declarations self.now.nodes.items) }
+        ensures free { IfOk result (λ s. FreeUpTo s (length self.now.nodes.items) (formulas self.now.nodes.items)) }
+    {
+        self.check_size()?;
+        self.check_nodes()?;
+        self.check_parents()?;
+        self.check_bindings()?;
+        self.check_root()
     }
-}
 
-fn check_nodes(nodes: &[Node], declarations: &[Option<Declaration>]) -> Result<(), Refusal>
-    ensures { result_err result ≡ first (in_turn (of_node declarations.now nodes.now) 0 nodes.now) }
-{
-    for i in 0..nodes.len() {
-        check_node(nodes, i, declarations)?;
-    }
-    Ok(())
-}
-
-fn parent_count(nodes: &[Node], child: usize) -> usize
-    requires { length nodes.now ≤ 32 }
-    ensures { result ≡ parent_count nodes.now child }
-{
-    let mut count = 0;
-    for node in nodes {
-        count += times_in(*node, child);
-    }
-    count
-}
-
-fn check_parent(nodes: &[Node], i: usize) -> Result<(), Refusal>
-    requires { (length nodes.now ≤ 32) × (i < length nodes.now) }
-    ensures { result_err result ≡ first (of_parents nodes.now i) }
-{
-    if i + 1 < nodes.len() && parent_count(nodes, i) != 1 {
-        return Err(Cause::NotOneParent.at(i));
-    }
-    Ok(())
-}
-
-fn check_parents(nodes: &[Node]) -> Result<(), Refusal>
-    requires { length nodes.now ≤ 32 }
-    ensures { result_err result ≡ first (in_turn (of_parents nodes.now) 0 nodes.now) }
-{
-    for i in 0..nodes.len() {
-        check_parent(nodes, i)?;
-    }
-    Ok(())
-}
-
-fn check_bindings(nodes: &[Node]) -> Result<(), Refusal>
-    ensures { result_err result ≡ first (in_turn (of_bindings nodes.now) 0 nodes.now) }
-{
-    let mut bound = SmallSet::none();
-    for (i, node) in nodes.iter().enumerate() {
-        let binds = variables_bound(*node);
-        if binds.meets(bound) {
-            return Err(Cause::BoundBefore.at(i));
-        }
-        bound = bound.union(binds);
-    }
-    Ok(())
-}
-
-fn some_declaration_over(declarations: &[Option<Declaration>]) -> bool
-    ensures { result ≡ some declaration_over declarations.now }
-{
-    for declaration in declarations {
-        if declaration_over(*declaration) {
-            return true;
+    /// The count of nodes, and the declarations.
+    fn check_size(&self) -> Result<(), Refusal>
+        ensures { result_err result ≡ first (of_size self.now.declarations self.now.nodes.items) }
+    {
+        if self.nodes.is_empty() || self.nodes.len() > 32 {
+            Err(Cause::NodeCount.at(0))
+        } else if self.some_declaration_over() {
+            Err(Cause::OverLimit.at(0))
+        } else {
+            Ok(())
         }
     }
-    false
-}
 
-/// The count of nodes, and the declarations.
-fn check_size(nodes: &[Node], declarations: &[Option<Declaration>]) -> Result<(), Refusal>
-    ensures { result_err result ≡ first (of_size declarations.now nodes.now) }
-{
-    if nodes.len() == 0 || nodes.len() > 32 {
-        Err(Cause::NodeCount.at(0))
-    } else if some_declaration_over(declarations) {
-        Err(Cause::OverLimit.at(0))
-    } else {
+    fn some_declaration_over(&self) -> bool
+        ensures { result ≡ list_any declaration_over self.now.declarations }
+    {
+        self.declarations
+            .iter()
+            .any(|declaration| declaration.is_some_and(declaration_over))
+    }
+
+    /// What each node breaks by itself.
+    #[tactic(auto, using(crate::proofs::Questions::each_asked))]
+    fn check_nodes(&self) -> Result<(), Refusal>
+        ensures { result_err result ≡ first (in_turn (of_node self.now.declarations self.now.nodes.items) 0 self.now.nodes.items) }
+    {
+        for (i, node) in self.nodes.iter().enumerate() {
+            self.check_node(i, *node)?;
+        }
         Ok(())
     }
-}
 
-/// The free variables of each node, unless the root has one.
-fn check_root(nodes: &[Node]) -> Result<FreeSets, Refusal>
-    requires count { wrong_count nodes.now ≡ false }
-    requires descends { (i : ℕ) → i < length nodes.now → not_below i (node_at nodes.now i) ≡ false }
-    ensures refusal { result_err result ≡ first (of_root nodes.now) }
-    ensures free { IfOk result (λ s. FreeUpTo s (length nodes.now) (formulas nodes.now)) }
-{
-    let sets = free_sets(nodes);
-    let root = nodes.len() - 1;
-    if sets[root].is_empty() {
-        Ok(sets)
-    } else {
-        Err(Cause::FreeAtRoot.at(root))
+    fn check_node(&self, i: usize, node: Node) -> Result<(), Refusal>
+        ensures { result_err result ≡ first (node_questions self.now.declarations i node) }
+    {
+        if over_limit(node) {
+            Err(Cause::OverLimit.at(i))
+        } else if not_below(node, i) {
+            Err(Cause::ChildNotBelow.at(i))
+        } else if self.not_declared(node) {
+            Err(Cause::NotDeclared.at(i))
+        } else if bad_interval(node) {
+            Err(Cause::BadInterval.at(i))
+        } else {
+            Ok(())
+        }
     }
-}
 
-/// The rules on nodes together, once each node keeps its own.
-fn check_together(nodes: &[Node]) -> Result<FreeSets, Refusal>
-    requires count { wrong_count nodes.now ≡ false }
-    requires descends { (i : ℕ) → i < length nodes.now → not_below i (node_at nodes.now i) ≡ false }
-    ensures refusal { result_err result ≡ first (together nodes.now) }
-    ensures free { IfOk result (λ s. FreeUpTo s (length nodes.now) (formulas nodes.now)) }
-{
-    check_parents(nodes)?;
-    check_bindings(nodes)?;
-    check_root(nodes)
-}
+    fn not_declared(&self, node: Node) -> bool
+        ensures { result ≡ not_declared self.now.declarations node }
+    {
+        match node {
+            Node::Atom { predicate, terms } => declaration_of(
+                &self.declarations,
+                predicate,
+            ).is_none_or(|declaration| declaration.count != terms.count),
+            _ => false,
+        }
+    }
 
-pub(crate) fn check_all(
-    nodes: &[Node],
-    declarations: &[Option<Declaration>],
-) -> Result<FreeSets, Refusal>
-    ensures refusal { result_err result ≡ first (form_questions declarations.now nodes.now) }
-    ensures formed { OnOk result (Formed declarations.now nodes.now) }
-    ensures free { IfOk result (λ s. FreeUpTo s (length nodes.now) (formulas nodes.now)) }
-{
-    check_size(nodes, declarations)?;
-    check_nodes(nodes, declarations)?;
-    check_together(nodes)
+    // That the count of nodes is right is required here and twice below: a type that says it would serve these three alone.
+    #[tactic(auto, using(crate::proofs::Questions::each_asked))]
+    fn check_parents(&self) -> Result<(), Refusal>
+        requires { wrong_count self.now.nodes.items ≡ false }
+        ensures { result_err result ≡ first (in_turn (of_parents self.now.nodes.items) 0 self.now.nodes.items) }
+    {
+        // Over numbers and no nodes: it asks how often each number is an operand.
+        for i in 0..self.nodes.len() {
+            if self.not_one_parent(i) {
+                return Err(Cause::NotOneParent.at(i));
+            }
+        }
+        Ok(())
+    }
+
+    fn not_one_parent(&self, i: usize) -> bool
+        requires { (wrong_count self.now.nodes.items ≡ false) × (i < length self.now.nodes.items) }
+        ensures { result ≡ not_one_parent self.now.nodes.items i }
+    {
+        i + 1 < self.nodes.len() && self.parent_count(i) != 1
+    }
+
+    fn parent_count(&self, child: usize) -> usize
+        requires { length self.now.nodes.items ≤ 32 }
+        ensures { result ≡ parent_count self.now.nodes.items child }
+    {
+        self.nodes.iter().map(|node| times_in(*node, child)).sum()
+    }
+
+    #[tactic(auto, using(crate::proofs::Bound::bound_more, crate::proofs::Questions::each_asked))]
+    fn check_bindings(&self) -> Result<(), Refusal>
+        ensures { result_err result ≡ first (in_turn (of_bindings self.now.nodes.items) 0 self.now.nodes.items) }
+    {
+        let mut bound = SmallSet::none();
+        for (i, node) in self.nodes.iter().enumerate() {
+            let binds = variables_bound(*node);
+            if binds.meets(bound) {
+                return Err(Cause::BoundBefore.at(i));
+            }
+            bound = bound.union(binds);
+        }
+        Ok(())
+    }
+
+    /// The free variables of each node, unless the root has one.
+    fn check_root(&self) -> Result<FreeSets, Refusal>
+        requires count { wrong_count self.now.nodes.items ≡ false }
+        requires descends { Descends self.now.nodes.items }
+        ensures refusal { result_err result ≡ first (of_root self.now.nodes.items) }
+        ensures free { IfOk result (λ s. FreeUpTo s (length self.now.nodes.items) (formulas self.now.nodes.items)) }
+    {
+        let sets = free_sets(self.nodes.as_slice());
+        let root = self.nodes.len() - 1;
+        if sets[root].is_empty() {
+            Ok(sets)
+        } else {
+            Err(Cause::FreeAtRoot.at(root))
+        }
+    }
 }
 
 /// The theorem that a table is refused exactly if it does not keep every form rule.

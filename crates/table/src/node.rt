@@ -1,39 +1,36 @@
 //! What a table is made of, as a caller hands it over: nothing here is checked yet.
+use crate::arguments::Arguments;
 use sets::SmallSet;
 
 /// A value of the domain: a runner, a run, a track, by number.
 pub type Value = u32;
 
 /// An argument of an atom.
-#[derive(Clone, Copy)]
+#[derive(Clone, Copy, PartialEq, Eq, Debug)]
 pub enum Term {
     Variable(u8),
     Constant(Value),
 }
 
-/// The arguments of an atom: the first `count` places, of which there may be three; the others mean nothing.
-#[derive(Clone, Copy)]
-pub struct Terms {
-    pub count: u8,
-    pub places: [Term; 3],
-}
+/// The arguments of an atom.
+pub type Terms = Arguments<Term>;
 
 /// The seconds from `lo` to `hi`, both included; no `hi` is no upper end.
-#[derive(Clone, Copy)]
+#[derive(Clone, Copy, PartialEq, Eq, Debug)]
 pub struct Interval {
     pub lo: u32,
     pub hi: Option<u32>,
 }
 
 /// A predicate's count of arguments, and which of these must be given, from 0.
-#[derive(Clone, Copy)]
+#[derive(Clone, Copy, PartialEq, Eq, Debug)]
 pub struct Declaration {
     pub count: u8,
     pub given: SmallSet,
 }
 
 /// A node of a formula. Its operands are named by their numbers in the table.
-#[derive(Clone, Copy)]
+#[derive(Clone, Copy, PartialEq, Eq, Debug)]
 pub enum Node {
     True,
     False,

@@ -1,13 +1,9 @@
 //! A table as a caller hands it over, well or badly formed.
-ghost use Rattle.std.specs.Prelude.{◌≡◌, [], ◌∷◌, ◌++◌, length, replicate, is_ok, IfOk, if◌then◌else◌, Some, None, OnOk, nat_lt, slice_set};
+ghost use Rattle.std.specs.Prelude.{◌≡◌, [], ◌∷◌, ◌++◌, length, replicate, is_ok, IfOk, if◌then◌else◌, Some, None, nat_lt, slice_set};
 ghost use Rattle.std.specs.Result.{result_err};
 ghost use Rattle.refusal.specs.declared.Cause.TheVariants.{OverLimit};
-ghost use Rattle.table.specs.Form.{ask, first, form_questions};
-ghost use Rattle.table.specs.Formed.{Formed};
-ghost use Rattle.table.specs.Formula.{formulas, FreeUpTo};
+ghost use Rattle.table.specs.Form.{ask, first};
 
-use crate::form::check_all;
-use crate::free::FreeSets;
 use crate::node::{Declaration, Node};
 use refusal::{Cause, Refusal};
 use std::alloc::{AllocError, Global};
@@ -37,11 +33,11 @@ impl Table {
         ensures nodes { self.new.nodes ≡ self.old.nodes }
         ensures declarations { self.new.declarations ≡ (if is_ok result then slice_set self.old.declarations predicate (Some declaration) else self.old.declarations) }
     {
-        let place = usize::from(predicate);
-        if place > 63 {
+        // A test and an index: through `get_mut` a proof does not learn what the array then holds.
+        if predicate > 63 {
             return Err(Cause::OverLimit.at(0));
         }
-        self.declarations[place] = Some(declaration);
+        self.declarations[usize::from(predicate)] = Some(declaration);
         Ok(())
     }
 
@@ -52,30 +48,17 @@ impl Table {
         ensures declarations { self.new.declarations ≡ self.old.declarations }
     {
         let number = self.nodes.len();
-        match self.nodes.push(node) {
-            Ok(()) => Ok(number),
-            Err(_) => Err(AllocError),
-        }
-    }
-
-    /// The free variables of each node, or the first form rule that the table breaks.
-    pub fn check_form(&self) -> Result<FreeSets, Refusal>
-        ensures refusal { result_err result ≡ first (form_questions self.now.declarations self.now.nodes.items) }
-        ensures formed { OnOk result (Formed self.now.declarations self.now.nodes.items) }
-        ensures free { IfOk result (λ s. FreeUpTo s (length self.now.nodes.items) (formulas self.now.nodes.items)) }
-    {
-        check_all(self.nodes.as_slice(), &self.declarations)
+        self.nodes.push(node)?;
+        Ok(number)
     }
 
     /// The same declarations and nodes, in memory of their own.
     pub fn copy(&self, heap: Global) -> Result<Table, AllocError>
         ensures { IfOk result (λ t. (t.declarations ≡ self.now.declarations) × (t.nodes.items ≡ self.now.nodes.items)) }
     {
-        let nodes = Vec::from_slice(heap, self.nodes.as_slice())?;
-        let declarations = self.declarations;
         Ok(Table {
-            declarations,
-            nodes,
+            declarations: self.declarations,
+            nodes: Vec::from_slice(heap, self.nodes.as_slice())?,
         })
     }
 }

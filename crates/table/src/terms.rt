@@ -1,73 +1,47 @@
 //! The arguments of an atom.
-ghost use Rattle.std.specs.Prelude.{◌≡◌, ◌≤◌, length};
+ghost use Rattle.std.specs.Prelude.{◌≡◌, true};
+ghost use Rattle.std.specs.List.{list_any};
 ghost use Rattle.sets.specs.Sets.{members};
-ghost use Rattle.table.specs.Formula.{arguments, variable_in, variables_at};
-ghost use Rattle.table.specs.Form.{some, term_over};
+ghost use Rattle.table.specs.Arguments.{kept};
+ghost use Rattle.table.specs.Form.{term_over};
+ghost use Rattle.table.specs.Formula.{variable_in, variables_at};
 
 use crate::node::{Term, Terms};
 use sets::SmallSet;
 
+impl Term {
+    /// The variable that this term is, if it is one.
+    fn variables(&self) -> SmallSet
+        ensures { members result ≡ variable_in true self.now }
+    {
+        match *self {
+            Term::Variable(variable) => SmallSet::single(variable),
+            Term::Constant(_) => SmallSet::none(),
+        }
+    }
+}
+
 impl Terms {
     /// The variables at the arguments that stand at the given places.
+    #[tactic(auto, using(crate::proofs::Gather::gathers))]
     pub fn variables_at(&self, places: SmallSet) -> SmallSet
-        ensures { members result ≡ variables_at (members places) 0 (arguments self.now) }
+        ensures { members result ≡ variables_at (members places) 0 (kept self.now) }
     {
-        variables_in(self.arguments(), places)
-    }
-
-    /// The places that count.
-    pub(crate) fn arguments(&self) -> &[Term]
-        ensures value { result.now ≡ arguments self.now }
-        ensures few { length result.now ≤ 3 }
-    {
-        let count = usize::from(self.count).min(3);
-        &self.places[0..count]
-    }
-}
-
-fn variable_in(term: Term, wanted: bool) -> SmallSet
-    ensures { members result ≡ variable_in wanted term }
-{
-    match term {
-        Term::Variable(variable) => {
-            if wanted {
-                SmallSet::single(variable)
-            } else {
-                SmallSet::none()
+        let mut found = SmallSet::none();
+        for (place, term) in self.kept().iter().enumerate() {
+            if places.contains(place as u8) {
+                found = found.union(term.variables());
             }
         }
-        Term::Constant(_) => SmallSet::none(),
+        found
     }
-}
-
-fn variables_in(terms: &[Term], places: SmallSet) -> SmallSet
-    requires { length terms.now ≤ 3 }
-    ensures { members result ≡ variables_at (members places) 0 terms.now }
-{
-    let mut found = SmallSet::none();
-    for (place, term) in terms.iter().enumerate() {
-        found = found.union(variable_in(*term, places.contains(place as u8)));
-    }
-    found
 }
 
 /// Whether a variable is numbered over 7.
 pub(crate) fn some_over(terms: &[Term]) -> bool
-    ensures { result ≡ some term_over terms.now }
+    ensures { result ≡ list_any term_over terms.now }
 {
-    for term in terms {
-        if term_over(*term) {
-            return true;
-        }
-    }
-    false
-}
-
-fn term_over(term: Term) -> bool
-    ensures { result ≡ term_over term }
-{
-    match term {
-        Term::Variable(variable) => variable > 7,
-        Term::Constant(_) => false,
-    }
+    terms
+        .iter()
+        .any(|term| matches!(*term, Term::Variable(8..)))
 }

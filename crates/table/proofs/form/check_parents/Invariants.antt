@@ -1,6 +1,0 @@
-use Rattle.std.proofs.Common.{◌≡◌, drop}
-use Rattle.table.specs.Form.{first, in_turn, of_parents}
-use Rattle.table.proofs.form.check_parents.Given as goal
-
-abbrev pub invariant-loop-i : goal.invariant-loop-i
-invariant-loop-i l = first (in_turn (of_parents l.nodes) l.i (drop l.i l.nodes)) ≡ first (in_turn (of_parents l.nodes) 0 l.nodes)

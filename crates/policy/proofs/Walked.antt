@@ -1,15 +1,9 @@
 -- The walk and the rules of modes agree.
-use Rattle.std.proofs.Common.{◌≡◌, ℕ, ◌<◌, Bool, true, false, ◌&&◌, List, length, is_ok, Ok, Err, Result, sym, refl, ap, ◌∙◌}
+use Rattle.std.proofs.Common.{◌≡◌, ℕ, Bool, true, false, ◌&&◌, is_ok, Ok, Err, Result, refl, ap, ◌∙◌}
 use Rattle.std.specs.Result.{result_and}
-use Rattle.sets.specs.Sets.{NumberSet, none, ◌∪◌, ◌⊆◌}
-use Rattle.table.specs.Formula.{Formula, verum, falsum, atom, and, or, exists, forall, prev, once, hist, next, event, always, since, until, free, formula_of, formulas, formula_at}
-use Rattle.table.specs.declared.node.Node.{Node}
-use Rattle.sets.specs.declared.SmallSet.{SmallSet}
-use Rattle.table.proofs.Unrolled.{unrolled}
-use Rattle.policy.specs.Outlined.{Outlined}
-use Rattle.table.specs.Form.{Declarations, node_at}
-use Rattle.policy.specs.declared.modes.Mode.TheVariants.{Build}
-use Rattle.policy.specs.Modes.{moded, if_only, searching, start_of, same_outside, binds_all, WalkTells, needed, over_past, cached}
+use Rattle.sets.specs.Sets.{◌∪◌, ◌⊆◌}
+use Rattle.table.specs.Formula.{verum, falsum, atom, and, or, exists, forall, prev, once, hist, next, event, always, since, until, free}
+use Rattle.policy.specs.Modes.{if_only, searching, start_of, same_outside, binds_all, WalkTells, needed}
 
 both : (r s : Result (Unit {0}) ℕ) (a b : Bool) → is_ok r ≡ a → is_ok s ≡ b → is_ok (result_and r s) ≡ (a && b)
 both (Ok _) s a b p q = ap (λ (c : Bool). c && is_ok s) p ∙ ap (λ (c : Bool). a && c) q
@@ -41,14 +35,3 @@ walk_tells m D (since n i l r) K =
 walk_tells m D (until n i l r) K =
     both _ _ _ _ (only (searching m) n)
     (both _ _ _ _ (walk_tells m D r K) (both _ _ _ _ (walk_tells m D l (K ∪ free r)) (only (free l ⊆ (K ∪ free r)) n)))
-
--- what the check of a node for caching answers
-pub over-past : (ns : List Node) (free : List SmallSet) (n : ℕ) → n < length ns → Outlined ns free → (b : Bool) → ((fs : List Formula) (m : ℕ) → b ≡ over_past (formula_of fs m (node_at ns n))) → b ≡ over_past (formula_at ns n)
-over-past ns free n h o b e = e (formulas ns) n ∙ ap over_past (sym (unrolled ns n h (o.descends n h)))
-
-module _ (D : Declarations) (f : Formula) (b : Bool) (over : b ≡ over_past f) where
-  pub cached_if : (K : NumberSet) (r : Bool) → b ≡ true → K ≡ none → r ≡ moded Build D f K → r ≡ cached D f
-  cached_if K r y e h = h ∙ ap (moded Build D f) e ∙ ap (λ (c : Bool). c && moded Build D f none) (sym y ∙ over)
-
-  pub not_cached : b ≡ false → b ≡ cached D f
-  not_cached n = n ∙ ap (λ (c : Bool). c && moded Build D f none) (sym n ∙ over)

@@ -62,21 +62,10 @@ buildable D K f = moded Build D f K
 
 -- prev, once and since
 abbrev pub over_past : Formula → Bool
-over_past (verum n) = false
-over_past (falsum n) = false
-over_past (atom n p ts) = false
-over_past (and n l r) = false
-over_past (or n l r) = false
-over_past (exists n vs b) = false
-over_past (forall n vs l r) = false
 over_past (prev n i b) = true
 over_past (once n i b) = true
-over_past (hist n i b) = false
-over_past (next n i b) = false
-over_past (event n i b) = false
-over_past (always n i b) = false
 over_past (since n i l r) = true
-over_past (until n i l r) = false
+over_past _ = false
 
 -- a prev, once or since is cached exactly if it is buildable; what is known plays no part, since it starts from nothing
 abbrev pub cached : Declarations → Formula → Bool

@@ -1,19 +1,16 @@
 -- Which refusal a table meets, and what holds of one that meets none.
-use Rattle.std.specs.Prelude.{◌≡◌, ℕ, ◌<◌, Bool, true, false, List, length, Some, None, Ok, Err, Option, Result, slice_index, slice_index_or}
+use Rattle.std.specs.Prelude.{◌≡◌, ℕ, true, List, Some, None, Ok, Err, Option, Result}
 use Rattle.std.specs.Option.{option_or}
 use Rattle.refusal.specs.Causes.{refusal_at}
 use Rattle.refusal.specs.declared.Cause.TheVariants.{NotSearchable}
 use Rattle.refusal.specs.declared.Refusal.{Refusal}
 use Rattle.table.specs.declared.node.Node.{Node}
-use Rattle.sets.specs.declared.SmallSet.{SmallSet}
-use Rattle.sets.specs.Sets.{none, members}
-use Rattle.table.specs.Formula.{formulas, formula_at, root_of, free}
+use Rattle.sets.specs.Sets.{none}
+use Rattle.table.specs.Formula.{formula_at, root_of}
 use Rattle.table.specs.Form.{Declarations, first, form_questions}
 use Rattle.table.specs.Formed.{Formed}
 use Rattle.policy.specs.declared.modes.Mode.TheVariants.{Search}
-use Rattle.policy.specs.Modes.{walk, searchable, cached}
-use Rattle.policy.specs.Wait.{WaitsUpTo}
-use Rattle.policy.specs.Links.{parent_from}
+use Rattle.policy.specs.Modes.{walk, searchable}
 
 -- the refusal of a walk: not searchable, at the node where it first fails
 abbrev pub of_walk : Result (Unit {0}) ℕ → Option Refusal
@@ -34,17 +31,3 @@ pub record Accepted (D : Declarations) (ns : List Node) : Type 0 where
 abbrev pub RefusedUnlessAccepted : Type 0
 RefusedUnlessAccepted =
     (D : Declarations) (ns : List Node) → (Accepted D ns → refusal_of D ns ≡ None) × (refusal_of D ns ≡ None → Accepted D ns)
-
--- what is noted of the nodes of a table, each as a fact about every node; that of sets is stated number by number,
--- since what a policy holds as its invariant has to be seen to be a proposition
-abbrev pub FreeNoted : List Node → List SmallSet → Type 0
-FreeNoted ns sets = (n v : ℕ) → n < length ns → members (slice_index_or sets n (record { mask = 0 })) v ≡ free (formula_at ns n) v
-
-abbrev pub WaitsNoted : List Node → List ℕ → Type 0
-WaitsNoted ns waits = WaitsUpTo waits (length ns) (formulas ns)
-
-abbrev pub CachedNoted : Declarations → List Node → List Bool → Type 0
-CachedNoted D ns marks = (n : ℕ) → n < length ns → slice_index_or marks n false ≡ cached D (formula_at ns n)
-
-abbrev pub ParentsNoted : List Node → List ℕ → Type 0
-ParentsNoted ns links = (n : ℕ) → n < length ns → slice_index links n ≡ parent_from 0 ns n

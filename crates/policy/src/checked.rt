@@ -1,20 +1,16 @@
 //! The checked policy itself. Its fields are private, so that only `check` makes one.
-ghost use Rattle.std.specs.Prelude.{◌≡◌, false, is_some};
-ghost use Rattle.policy.specs.Verdict.{refusal_of, FreeNoted, WaitsNoted, CachedNoted, ParentsNoted};
+ghost use Rattle.std.specs.Prelude.{length};
+ghost use Rattle.policy.specs.Notes.{NotedUpTo};
+ghost use Rattle.policy.specs.Verdict.{Accepted};
 
-use table::{FreeSets, Table};
+use crate::notes::Notes;
+use table::Table;
 
 /// A table that keeps every rule, with what a search of it needs to know of each node.
 #[derive(Drop)]
 pub struct Policy {
     pub(super) table: Table,
-    pub(super) free: FreeSets,
-    pub(super) waits: [u64; 32],
-    pub(super) cached: [bool; 32],
-    pub(super) parents: [usize; 32],
-    ghost accepted: { is_some (refusal_of table.declarations table.nodes.items) ≡ false },
-    ghost of_free: { FreeNoted table.nodes.items free },
-    ghost of_waits: { WaitsNoted table.nodes.items waits },
-    ghost of_cached: { CachedNoted table.declarations table.nodes.items cached },
-    ghost of_parents: { ParentsNoted table.nodes.items parents },
+    pub(super) notes: Notes,
+    ghost accepted: { Accepted table.declarations table.nodes.items },
+    ghost noted: { NotedUpTo table.declarations table.nodes.items notes (length table.nodes.items) },
 }

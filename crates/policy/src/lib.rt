@@ -5,6 +5,8 @@ mod checked;
 mod checking;
 mod links;
 mod modes;
+mod notes;
+mod outline;
 mod reading;
 mod waits;
 

@@ -1,47 +1,41 @@
 //! The recursive mode checks over the node table.
-ghost use Rattle.std.specs.Prelude.{◌≡◌, ℕ, ◌<◌, true, false, List, length, is_ok, None, slice_index_or};
+ghost use Rattle.std.specs.Prelude.{◌≡◌, ℕ, false, List, is_ok};
 ghost use Rattle.sets.specs.Sets.{members};
-ghost use Rattle.table.specs.Formula.{Formula, formulas, formula_at, formula_of, arguments};
+ghost use Rattle.table.specs.Formula.{Formula, atom, or, exists, forall, formulas, formula_at, formula_of};
+ghost use Rattle.table.specs.Arguments.{kept};
 ghost use Rattle.table.specs.Form.{not_below};
-ghost use Rattle.policy.specs.Modes.{given_of, needed, same_outside, binds_all, start_of, searching, searchable, buildable, walk, walk_sides, if_only, over_past, cached, WalkTells};
+ghost use Rattle.policy.specs.Modes.{same_outside, binds_all, start_of, searching, searchable, buildable, walk, walk_sides, if_only, over_past, cached, WalkTells};
 ghost use Rattle.policy.specs.Examples.{ExamplesHold};
-ghost use Rattle.policy.specs.Outlined.{Outlined};
 ghost use Rattle.policy.specs.declared.modes.Mode.TheVariants.{Search};
 
+use crate::outline::Outline;
 use sets::SmallSet;
-use table::{Declaration, FreeSets, Node, Terms, declaration_of};
+use table::{Node, Terms};
 
 /// What a formula is checked for: that it can be searched, or that its rows can be built.
-#[derive(Clone, Copy)]
+// An enum and no closures: the rules are stated for these two modes, and the walk tells them apart in two places.
+#[derive(Clone, Copy, PartialEq, Eq)]
 pub(crate) enum Mode {
     Search,
     Build,
 }
 
-fn is_search(mode: Mode) -> bool
-    ensures { result ≡ searching mode }
-{
-    match mode {
-        Mode::Search => true,
-        Mode::Build => false,
+impl Mode {
+    /// Ok in a search; rows can't be built of the operator at the node n.
+    fn only_search(self, n: usize) -> Result<(), usize>
+        ensures { result ≡ if_only (searching self) n }
+    {
+        if_only(self == Mode::Search, n)
     }
-}
 
-fn start_of(mode: Mode, known: SmallSet) -> SmallSet
-    ensures { members result ≡ start_of mode (members known) }
-{
-    match mode {
-        Mode::Search => known,
-        Mode::Build => SmallSet::none(),
-    }
-}
-
-fn given_of(declaration: Option<Declaration>) -> SmallSet
-    ensures { members result ≡ given_of declaration }
-{
-    match declaration {
-        Some(declaration) => declaration.given,
-        None => SmallSet::none(),
+    /// What is known where a prev, once or since starts.
+    fn start(self, known: SmallSet) -> SmallSet
+        ensures { members result ≡ start_of self (members known) }
+    {
+        match self {
+            Mode::Search => known,
+            Mode::Build => SmallSet::none(),
+        }
     }
 }
 
@@ -60,163 +54,199 @@ fn binds_all(known: SmallSet, variables: SmallSet, left: SmallSet, right: SmallS
 }
 
 /// Ok where the condition holds, else the node that it is asked of.
+// It takes a flag, as `ok_or` takes an `Option`: no step is chosen by it.
 fn if_only(holds: bool, n: usize) -> Result<(), usize>
     ensures { result ≡ if_only holds n }
 {
-    if holds { Ok(()) } else { Err(n) }
+    holds.then_some(()).ok_or(n)
 }
 
 fn is_over_past(node: Node) -> bool
     ensures { (fs : List Formula) (n : ℕ) → result ≡ over_past (formula_of fs n node) }
 {
-    match node {
-        Node::Prev { .. } | Node::Once { .. } | Node::Since { .. } => true,
-        _ => false,
-    }
+    matches!(
+        node,
+        Node::Prev { .. } | Node::Once { .. } | Node::Since { .. }
+    )
 }
 
-/// A table that keeps the form rules, lent for the walk, with the free variables of its nodes.
+/// A walk over a formula that checks it in one mode. It answers the node at which the check first fails: a place, and
+/// no refusal yet, as in the definitions.
 #[derive(Clone, Copy)]
-pub(crate) struct Outline<'a> {
-    pub(crate) nodes: &'a [Node],
-    pub(crate) declarations: &'a [Option<Declaration>],
-    pub(crate) free: &'a FreeSets,
+struct Walk<'a> {
+    outline: Outline<'a>,
+    mode: Mode,
 }
 
-impl Outline<'_> {
-    /// Where the walk from node n first fails, with these variables known.
-    #[cycle(walk_walk_node_walk_sides)]
-    fn walk(self, mode: Mode, n: usize, known: SmallSet) -> Result<(), usize>
-        requires { (n < length self.nodes.now) × (Outlined self.nodes.now self.free.now) }
-        ensures { result ≡ walk mode self.entry.declarations.now (formula_at self.entry.nodes.now n) (members known) }
+// Each step has its node's number, operands and known variables as parameters: all of them change at each step.
+impl Walk<'_> {
+    /// The walk from the node n, with these variables known; past the last node nothing fails.
+    #[cycle(walk)]
+    fn from_node(self, n: usize, known: SmallSet) -> Result<(), usize>
+        ensures { result ≡ walk self.entry.mode self.entry.outline.declarations.now (formula_at self.entry.outline.nodes.now n) (members known) }
     {
-        self.walk_node(mode, n, self.nodes[n], known)
+        let Some(node) = self.outline.node(n) else {
+            return Ok(());
+        };
+        self.through(n, node, known)
     }
 
     /// The same at a node that is read already.
-    #[cycle(walk_walk_node_walk_sides)]
-    fn walk_node(self, mode: Mode, n: usize, node: Node, known: SmallSet) -> Result<(), usize>
-        requires { (n < length self.nodes.now) × ((Outlined self.nodes.now self.free.now) × (not_below n node ≡ false)) }
-        ensures { result ≡ walk mode self.entry.declarations.now (formula_of (formulas self.entry.nodes.now) n node) (members known) }
+    #[cycle(walk)]
+    fn through(self, n: usize, node: Node, known: SmallSet) -> Result<(), usize>
+        requires { not_below n node ≡ false }
+        ensures { result ≡ walk self.entry.mode self.entry.outline.declarations.now (formula_of (formulas self.entry.outline.nodes.now) n node) (members known) }
     {
         match node {
             Node::True | Node::False => Ok(()),
-            Node::Atom { predicate, terms } => {
-                if_only(self.needed(predicate, terms).within(known), n)
-            }
+            Node::Atom { predicate, terms } => self.through_atom(n, predicate, terms, known),
             Node::And { left, right } => {
-                self.walk(mode, left, known)?;
-                self.walk(mode, right, known.union(self.free[left]))
+                self.from_node(left, known)?;
+                self.from_node(right, known.union(self.outline.free_of(left)))
             }
-            Node::Or { left, right } => {
-                self.walk(mode, left, known)?;
-                self.walk(mode, right, known)?;
-                if_only(same_outside(known, self.free[left], self.free[right]), n)
-            }
-            Node::Exists { variables, body } => {
-                self.walk(mode, body, known)?;
-                if_only(variables.within(self.free[body]), n)
-            }
+            Node::Or { left, right } => self.through_or(n, left, right, known),
+            Node::Exists { variables, body } => self.through_exists(n, variables, body, known),
             Node::Forall {
-                variables: bound,
+                variables,
                 left,
                 right,
-            } => {
-                self.walk(mode, left, known)?;
-                self.walk(mode, right, known.union(bound))?;
-                if_only(
-                    binds_all(known, bound, self.free[left], self.free[right]),
-                    n,
-                )
-            }
+            } => self.through_forall(n, variables, left, right, known),
             Node::Prev { body, .. } | Node::Once { body, .. } => {
-                self.walk(mode, body, start_of(mode, known))
+                self.from_node(body, self.mode.start(known))
             }
             Node::Next { body, .. } | Node::Event { body, .. } => {
-                if_only(is_search(mode), n)?;
-                self.walk(mode, body, known)
+                self.mode.only_search(n)?;
+                self.from_node(body, known)
             }
             Node::Hist { body, .. } | Node::Always { body, .. } => {
-                if_only(is_search(mode), n)?;
-                self.walk(mode, body, known)?;
-                if_only(self.free[body].within(known), n)
+                self.mode.only_search(n)?;
+                self.from_node(body, known)?;
+                if_only(self.outline.free_of(body).within(known), n)
             }
             Node::Since { left, right, .. } => {
-                self.walk_sides(mode, n, left, right, start_of(mode, known))
+                self.through_sides(n, left, right, self.mode.start(known))
             }
             Node::Until { left, right, .. } => {
-                if_only(is_search(mode), n)?;
-                self.walk_sides(mode, n, left, right, known)
+                self.mode.only_search(n)?;
+                self.through_sides(n, left, right, known)
             }
         }
     }
 
-    /// The sides of a since or an until: right first, then left with right's variables known.
-    #[cycle(walk_walk_node_walk_sides)]
-    fn walk_sides(
+    /// An atom, whose variables that must be given are known.
+    fn through_atom(
         self,
-        mode: Mode,
+        n: usize,
+        predicate: u8,
+        terms: Terms,
+        known: SmallSet,
+    ) -> Result<(), usize>
+        ensures { result ≡ walk self.entry.mode self.entry.outline.declarations.now (atom n predicate (kept terms)) (members known) }
+    {
+        let needed = self.outline.needed(predicate, terms);
+        if_only(needed.within(known), n)
+    }
+
+    /// Left, then right, whose free variables are the same outside those known.
+    #[cycle(walk)]
+    fn through_or(self, n: usize, left: usize, right: usize, known: SmallSet) -> Result<(), usize>
+        ensures { result ≡ walk self.entry.mode self.entry.outline.declarations.now (or n (formula_at self.entry.outline.nodes.now left) (formula_at self.entry.outline.nodes.now right)) (members known) }
+    {
+        self.from_node(left, known)?;
+        self.from_node(right, known)?;
+        let left = self.outline.free_of(left);
+        let right = self.outline.free_of(right);
+        if_only(same_outside(known, left, right), n)
+    }
+
+    /// The body, of which the variables bound are free.
+    #[cycle(walk)]
+    fn through_exists(
+        self,
+        n: usize,
+        variables: SmallSet,
+        body: usize,
+        known: SmallSet,
+    ) -> Result<(), usize>
+        ensures { result ≡ walk self.entry.mode self.entry.outline.declarations.now (exists n (members variables) (formula_at self.entry.outline.nodes.now body)) (members known) }
+    {
+        self.from_node(body, known)?;
+        if_only(variables.within(self.outline.free_of(body)), n)
+    }
+
+    /// Left, then right with the variables bound known.
+    #[cycle(walk)]
+    fn through_forall(
+        self,
+        n: usize,
+        variables: SmallSet,
+        left: usize,
+        right: usize,
+        known: SmallSet,
+    ) -> Result<(), usize>
+        ensures { result ≡ walk self.entry.mode self.entry.outline.declarations.now (forall n (members variables) (formula_at self.entry.outline.nodes.now left) (formula_at self.entry.outline.nodes.now right)) (members known) }
+    {
+        self.from_node(left, known)?;
+        self.from_node(right, known.union(variables))?;
+        let left = self.outline.free_of(left);
+        let right = self.outline.free_of(right);
+        if_only(binds_all(known, variables, left, right), n)
+    }
+
+    /// The sides of a since or an until: right first, then left with right's variables known.
+    #[cycle(walk)]
+    fn through_sides(
+        self,
         n: usize,
         left: usize,
         right: usize,
         known: SmallSet,
     ) -> Result<(), usize>
-        requires { (n < length self.nodes.now) × ((Outlined self.nodes.now self.free.now) × ((left < n) × (right < n))) }
-        ensures { result ≡ walk_sides mode self.entry.declarations.now n (formula_at self.entry.nodes.now left) (formula_at self.entry.nodes.now right) (members known) }
+        ensures { result ≡ walk_sides self.entry.mode self.entry.outline.declarations.now n (formula_at self.entry.outline.nodes.now left) (formula_at self.entry.outline.nodes.now right) (members known) }
     {
-        self.walk(mode, right, known)?;
-        let after = known.union(self.free[right]);
-        self.walk(mode, left, after)?;
-        if_only(self.free[left].within(after), n)
-    }
-
-    /// The variables at the arguments of an atom that must be given.
-    fn needed(self, predicate: u8, terms: Terms) -> SmallSet
-        ensures { members result ≡ needed self.entry.declarations.now predicate (arguments terms) }
-    {
-        terms.variables_at(given_of(declaration_of(self.declarations, predicate)))
+        self.from_node(right, known)?;
+        let after = known.union(self.outline.free_of(right));
+        self.from_node(left, after)?;
+        if_only(self.outline.free_of(left).within(after), n)
     }
 }
 
 impl Outline<'_> {
     /// Ok if the node n is searchable with these variables known, else the node at which the walk first fails.
+    #[tactic(auto, using(crate::proofs::Walked::walk_tells))]
     pub(crate) fn searchable(self, n: usize, known: SmallSet) -> Result<(), usize>
-        requires { (n < length self.nodes.now) × (Outlined self.nodes.now self.free.now) }
         ensures walked { result ≡ walk Search self.entry.declarations.now (formula_at self.entry.nodes.now n) (members known) }
         ensures tells { is_ok result ≡ searchable self.entry.declarations.now (members known) (formula_at self.entry.nodes.now n) }
     {
-        self.walk(Mode::Search, n, known)
+        let walk = Walk {
+            outline: self,
+            mode: Mode::Search,
+        };
+        walk.from_node(n, known)
     }
 
     /// Whether the rows of the node n can be built with these variables known.
+    #[tactic(auto, using(crate::proofs::Walked::walk_tells))]
     fn buildable(self, n: usize, known: SmallSet) -> bool
-        requires { (n < length self.nodes.now) × (Outlined self.nodes.now self.free.now) }
         ensures { result ≡ buildable self.entry.declarations.now (members known) (formula_at self.entry.nodes.now n) }
     {
-        self.walk(Mode::Build, n, known).is_ok()
+        let walk = Walk {
+            outline: self,
+            mode: Mode::Build,
+        };
+        walk.from_node(n, known).is_ok()
     }
 
     /// Whether the node n keeps rows: a prev, once or since that is buildable.
-    fn is_cached(self, n: usize) -> bool
-        requires { (n < length self.nodes.now) × (Outlined self.nodes.now self.free.now) }
+    pub(crate) fn is_cached(self, n: usize) -> bool
         ensures { result ≡ cached self.entry.declarations.now (formula_at self.entry.nodes.now n) }
     {
-        is_over_past(self.nodes[n]) && self.buildable(n, SmallSet::none())
-    }
-
-    pub(crate) fn cached(self) -> [bool; 32]
-        requires { Outlined self.nodes.now self.free.now }
-        ensures { (n : ℕ) → n < length self.entry.nodes.now → slice_index_or result n false ≡ cached self.entry.declarations.now (formula_at self.entry.nodes.now n) }
-    {
-        let mut marks = [false; 32];
-        for n in 0..self.nodes.len() {
-            marks[n] = self.is_cached(n);
-        }
-        marks
+        self.node(n).is_some_and(is_over_past) && self.buildable(n, SmallSet::none())
     }
 }
 
 /// The theorem that the walk fails exactly if the rules of modes do not hold.
+#[tactic(auto, using(crate::proofs::Walked::walk_tells))]
 pub fn walk_stands()
     ensures { WalkTells }
 {}

@@ -1,36 +1,22 @@
 -- The order of arguments is total, and 0 behind arguments doesn't alter it.
-use Rattle.std.proofs.Common.{◌≡◌, ℕ, ◌<◌, Bool, true, false, eqb, List, [], ◌∷◌, length, Ordering, Less, Equal, Greater, sym, refl, ap, ◌∙◌, true≢false, arith}
-use Rattle.std.specs.Cmp.{nat_cmp_total, alike_right}
-use Rattle.std.specs.Cmp.Lexicographic.{slice_cmp, lists_total}
-use Rattle.std.specs.Ordering.{is_lt, ordering_reverse, nat_cmp}
-use Rattle.std.proofs.lemmas.Bool.{eq-eqb, eqb-true, le-ltb, and_parts, and_from}
+use Rattle.std.proofs.Common.{◌≡◌, ℕ, ◌<◌, true, false, eqb, List, [], ◌∷◌, length, Some, sym, refl, ap, true≢false, arith}
+use Rattle.std.specs.Cmp.{IsStrictWeakOrder, nat_cmp_total}
+use Rattle.std.proofs.lemmas.Cmp.{tied_itself}
+use Rattle.std.proofs.lemmas.List.MinMax.{ranks_by}
+use Rattle.std.specs.Cmp.Lexicographic.{slice_partial_cmp, lists_agrees, lists_total}
+use Rattle.std.specs.Ordering.{is_lt, is_some_and, nat_cmp}
+use Rattle.std.proofs.lemmas.Bool.{eq-eqb, eqb-true, and_parts, and_from}
 use Rattle.facts.specs.Tuples.{before, same, padded}
 
-less : (o : Ordering) → is_lt o ≡ true → o ≡ Less
-less Less h = refl
-less Equal h = absurd (true≢false (sym h))
-less Greater h = absurd (true≢false (sym h))
+-- `<` at slices is the order of arguments
+pub less_before : (us vs : List ℕ) → is_some_and is_lt (slice_partial_cmp (λ x y. Some (nat_cmp x y)) us vs) ≡ before us vs
+less_before us vs = ap (is_some_and is_lt) (lists_agrees (λ x y. refl) us vs)
 
-equal_itself : (vs : List ℕ) → slice_cmp nat_cmp vs vs ≡ Equal
-equal_itself [] = refl
-equal_itself (v ∷ vs) = rw (le-ltb v v (omega arith), eq-eqb v v refl) (equal_itself vs)
+pub ranked : IsStrictWeakOrder before
+ranked = ranks_by (lists_total nat_cmp_total) (λ vs. vs)
 
 pub before_itself : (vs : List ℕ) → before vs vs ≡ false
-before_itself vs = ap is_lt (equal_itself vs)
-
-pub before_turned : (us vs : List ℕ) → before us vs ≡ true → before vs us ≡ false
-before_turned us vs h = ap is_lt ((lists_total nat_cmp_total).antisymm vs us ∙ ap ordering_reverse (less (slice_cmp nat_cmp us vs) h))
-
-through : (ws vs us : List ℕ) (o : Ordering) → slice_cmp nat_cmp vs us ≡ o → is_lt o ≡ false → before ws vs ≡ false → (r : Bool) → before ws us ≡ r → before ws us ≡ false
-through ws vs us o e n m false r = r
-through ws vs us Less e n m true r = absurd (true≢false n)
-through ws vs us Equal e n m true r = absurd (true≢false (sym r ∙ sym (ap is_lt (alike_right (lists_total nat_cmp_total) vs us ws e)) ∙ m))
-through ws vs us Greater e n m true r =
-    let turned : slice_cmp nat_cmp us vs ≡ Less = (lists_total nat_cmp_total).antisymm us vs ∙ ap ordering_reverse e in
-    absurd (true≢false (sym (ap is_lt ((lists_total nat_cmp_total).trans ws us vs (less (slice_cmp nat_cmp ws us) r) turned)) ∙ m))
-
-pub not_before_through : (ws vs us : List ℕ) → before ws vs ≡ false → before vs us ≡ false → before ws us ≡ false
-not_before_through ws vs us a b = through ws vs us (slice_cmp nat_cmp vs us) refl b a (before ws us) refl
+before_itself vs = ap is_lt (tied_itself (lists_total nat_cmp_total) vs)
 
 pub same_is : (us vs : List ℕ) → same us vs ≡ true → us ≡ vs
 same_is [] [] h = refl

@@ -87,18 +87,18 @@ tried relation.Sibling x v None h a s m r o p =
     }
 
 -- arguments that answer are a pair with the x that is given
-pair : (R : Relation) (x : ℕ) (q : Query) (a : Option (List ℕ)) → x < 2 ^ 32 → get_or q.given 0 None ≡ Some x → given (needs_of R) 0 (places q.given) ≡ Ok tt
+pair : (R : Relation) (x : ℕ) (q : Query) (a : Option (List ℕ)) → x < 2 ^ 32 → get_or q.given.first 0 None ≡ Some x → given (needs_of R) 0 (places q.given.first) ≡ Ok tt
     → (vs : List ℕ) → related R q a vs ≡ true
-    → (related R q a (x ∷ second R x (get_or q.given 1 None) a ∷ []) ≡ true) × (before vs (x ∷ second R x (get_or q.given 1 None) a ∷ []) ≡ false)
+    → (related R q a (x ∷ second R x (get_or q.given.first 1 None) a ∷ []) ≡ true) × (before vs (x ∷ second R x (get_or q.given.first 1 None) a ∷ []) ≡ false)
 pair R x q a s e m [] h = absurd (false≢true h)
 pair R x q a s e m (u ∷ []) h = absurd (false≢true h)
 pair R x q a s e m (u ∷ v ∷ w ∷ vs) h = absurd (false≢true (and_parts (eqb (length (u ∷ v ∷ w ∷ vs)) 2) false h).1)
 pair R x q a s e m (u ∷ v ∷ []) h =
-    let g = get_or q.given 1 None in
-    let k = get_or q.given 2 None in
+    let g = get_or q.given.first 1 None in
+    let k = get_or q.given.first 2 None in
     let p = and_parts (relates R u v) (fits q a (u ∷ v ∷ [])) h in
-    let f = and_parts (agrees (places q.given) (u ∷ v ∷ [])) (past a (u ∷ v ∷ [])) p.1 in
-    let a0 = and_parts (allows (get_or q.given 0 None) u) (allows g v && true) f.0 in
+    let f = and_parts (agrees (places q.given.first) (u ∷ v ∷ [])) (past a (u ∷ v ∷ [])) p.1 in
+    let a0 = and_parts (allows (get_or q.given.first 0 None) u) (allows g v && true) f.0 in
     let a1 = and_parts (allows g v) true a0.1 in
     let xu : x ≡ u = eqb-true x u (subst (λ (o : Option ℕ). allows o u ≡ true) e a0.0) in
     let t : Tried R x (second R x g a) v g a =
@@ -107,44 +107,44 @@ pair R x q a s e m (u ∷ v ∷ []) h =
       subst (λ (n : ℕ). before (n ∷ v ∷ []) (x ∷ second R x g a ∷ []) ≡ false) xu t.least,
     )
 
-pub chosen : (R : Relation) (x : ℕ) (q : Query) (a r : Option (List ℕ)) → x < 2 ^ 32 → r ≡ pair_of R x (second R x (get_or q.given 1 None) a) q a → get_or q.given 0 None ≡ Some x → Chosen R q a r
+pub chosen : (R : Relation) (x : ℕ) (q : Query) (a r : Option (List ℕ)) → x < 2 ^ 32 → r ≡ pair_of R x (second R x (get_or q.given.first 1 None) a) q a → get_or q.given.first 0 None ≡ Some x → Chosen R q a r
 chosen R x q a r s d e m =
-    let vs = x ∷ second R x (get_or q.given 1 None) a ∷ [] in
+    let vs = x ∷ second R x (get_or q.given.first 1 None) a ∷ [] in
     subst (Least (related R q a)) (sym d) (elim (cases_Bool (related R q a vs)) [
-      | inl y ↦ subst (λ (b : Bool). Least (related R q a) (cond b (Some (x ∷ second R x (get_or q.given 1 None) a ∷ 0 ∷ [])) None)) (sym y)
+      | inl y ↦ subst (λ (b : Bool). Least (related R q a) (cond b (Some (x ∷ second R x (get_or q.given.first 1 None) a ∷ 0 ∷ [])) None)) (sym y)
           (vs, refl, y, λ ws w. (pair R x q a s e m ws w).1)
-      | inr n ↦ subst (λ (b : Bool). Least (related R q a) (cond b (Some (x ∷ second R x (get_or q.given 1 None) a ∷ 0 ∷ [])) None)) (sym n)
+      | inr n ↦ subst (λ (b : Bool). Least (related R q a) (cond b (Some (x ∷ second R x (get_or q.given.first 1 None) a ∷ 0 ∷ [])) None)) (sym n)
           (λ ws. elim (cases_Bool (related R q a ws)) [ inl w ↦ absurd (both_ways (related R q a vs) n (pair R x q a s e m ws w).0) | inr f ↦ f ])
     ])
 
-pub not_chosen : (R : Relation) (q : Query) (a : Option (List ℕ)) → get_or q.given 0 None ≡ None → Chosen R q a None
+pub not_chosen : (R : Relation) (q : Query) (a : Option (List ℕ)) → get_or q.given.first 0 None ≡ None → Chosen R q a None
 unfolding single below
-not_chosen R q a e m = absurd (false≢true (first_needed R (subst (λ (o : Option ℕ). is_ok (given (needs_of R) 0 (o ∷ get_or q.given 1 None ∷ get_or q.given 2 None ∷ [])) ≡ true) e (ap is_ok m))))
+not_chosen R q a e m = absurd (false≢true (first_needed R (subst (λ (o : Option ℕ). is_ok (given (needs_of R) 0 (o ∷ get_or q.given.first 1 None ∷ get_or q.given.first 2 None ∷ [])) ≡ true) e (ap is_ok m))))
   where
-    first_needed : (R : Relation) → is_ok (given (needs_of R) 0 (None ∷ get_or q.given 1 None ∷ get_or q.given 2 None ∷ [])) ≡ true → false ≡ true
+    first_needed : (R : Relation) → is_ok (given (needs_of R) 0 (None ∷ get_or q.given.first 1 None ∷ get_or q.given.first 2 None ∷ [])) ≡ true → false ≡ true
     first_needed relation.Equal h = h
     first_needed relation.Less h = h
     first_needed relation.Class h = h
     first_needed relation.Sibling h = h
 
-module _ (p : ℕ) (q : Query) (a : Option (List ℕ)) (o : Option Relation) (e : relation_of q.predicate ≡ o) (h : allowed calculated q ≡ Ok tt) where
+module _ (q : Query) (o : Option Relation) (e : relation_of q.predicate ≡ o) (h : allowed calculated q ≡ Ok tt) where
   -- a query that is allowed is one of a relation, with two arguments
   unknown : (b : Bool) (k : Option Relation) → answerable (cond b (option_map needs_of k) None) q ≡ Ok tt → b ≡ true
   unknown true k w = refl
   unknown false k w = absurd (false≢true (ap is_ok w))
 
-  pub pairs : q.count ≡ 2
-  pairs = eqb-true q.count 2 (unknown (eqb q.count 2) (relation_of q.predicate) h)
+  pub pairs : q.given.count ≡ 2
+  pairs = eqb-true q.given.count 2 (unknown (eqb q.given.count 2) (relation_of q.predicate) h)
 
   pub needed : answerable (option_map needs_of o) q ≡ Ok tt
   needed = subst (λ (k : Option Relation). answerable (option_map needs_of k) q ≡ Ok tt) e
-      (subst (λ (b : Bool). answerable (cond b (option_map needs_of (relation_of q.predicate)) None) q ≡ Ok tt) (unknown (eqb q.count 2) (relation_of q.predicate) h) h)
+      (subst (λ (b : Bool). answerable (cond b (option_map needs_of (relation_of q.predicate)) None) q ≡ Ok tt) (unknown (eqb q.given.count 2) (relation_of q.predicate) h) h)
 
 pub found : (p : ℕ) (q : Query) (a : Option (List ℕ)) (R : Relation) (r : Option (List ℕ)) → relation_of q.predicate ≡ Some R → allowed calculated q ≡ Ok tt → Chosen R q a r → Found calculated p q a (Ok r)
-found p q a R r e h c = record { cases = (h, like (related R q a) (wanted calculated p q a) (λ vs. same vs) r (c (needed p q a (Some R) e h))) }
+found p q a R r e h c = record { cases = (h, like (related R q a) (wanted calculated p q a) (λ vs. same vs) r (c (needed q (Some R) e h))) }
   where
     same : (vs : List ℕ) → wanted calculated p q a vs ≡ related R q a vs
-    same vs = (λ i. eqb (length vs) (pairs p q a (Some R) e h i) && (holds_of (e i) vs && fits q a vs))
+    same vs = (λ i. eqb (length vs) (pairs q (Some R) e h i) && (holds_of (e i) vs && fits q a vs))
 
-pub unrelated : (p : ℕ) (q : Query) (a : Option (List ℕ)) (r : Option (List ℕ)) → relation_of q.predicate ≡ None → allowed calculated q ≡ Ok tt → Found calculated p q a (Ok r)
-unrelated p q a r e h = absurd (false≢true (ap is_ok (needed p q a None e h)))
+pub unrelated : (q : Query) → relation_of q.predicate ≡ None → allowed calculated q ≡ Ok tt → ⊥
+unrelated q e h = false≢true (ap is_ok (needed q None e h))

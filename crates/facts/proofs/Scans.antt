@@ -8,7 +8,7 @@ use Rattle.facts.specs.Tuples.{before, same, arguments, padded, is_fact, among, 
 use Rattle.facts.specs.Facts.{Least}
 use Rattle.facts.specs.Scan.{lesser, better}
 use Rattle.facts.proofs.Tuples.{three_taken}
-use Rattle.facts.proofs.Orders.{before_itself, before_turned, not_before_through, same_is, same_itself, before_padded}
+use Rattle.facts.proofs.Orders.{ranked, before_itself, same_is, same_itself, before_padded}
 
 -- the least of the arguments that pass a test is the least of those that pass an equal one
 pub like : (P Q : List ℕ → Bool) → ((vs : List ℕ) → Q vs ≡ P vs) → (r : Option (List ℕ)) → Least P r → Least Q r
@@ -19,24 +19,24 @@ pub among_append : (q : ℕ) (vs : List ℕ) (xs ys : List Fact) → among q vs 
 among_append q vs [] ys = refl
 among_append q vs (x ∷ xs) ys = ap (λ (b : Bool). is_fact q vs x || b) (among_append q vs xs ys) ∙ sym (or_assoc (is_fact q vs x) (among q vs xs) (among q vs ys))
 
-module _ (q : Query) (a : Option (List ℕ)) (few : q.count < 4) where
+module _ (q : Query) (a : Option (List ℕ)) (few : q.given.count < 4) where
   -- the arguments among these facts that answer the query
   abbrev pub asked : List Fact → List ℕ → Bool
-  asked xs vs = eqb (length vs) q.count && (among q.predicate vs xs && fits q a vs)
+  asked xs vs = eqb (length vs) q.given.count && (among q.predicate vs xs && fits q a vs)
 
   pub record Asked (xs : List Fact) (vs : List ℕ) : Type 0 where
-    pub long : length vs ≡ q.count
+    pub long : length vs ≡ q.given.count
     pub there : among q.predicate vs xs ≡ true
     pub fit : fits q a vs ≡ true
 
   parts : (xs : List Fact) (vs : List ℕ) → asked xs vs ≡ true → Asked xs vs
   parts xs vs h =
-      let p = and_parts (eqb (length vs) q.count) (among q.predicate vs xs && fits q a vs) h in
+      let p = and_parts (eqb (length vs) q.given.count) (among q.predicate vs xs && fits q a vs) h in
       let r = and_parts (among q.predicate vs xs) (fits q a vs) p.1 in
-      record { long = eqb-true (length vs) q.count p.0; there = r.0; fit = r.1 }
+      record { long = eqb-true (length vs) q.given.count p.0; there = r.0; fit = r.1 }
 
   from : (xs : List Fact) (vs : List ℕ) → Asked xs vs → asked xs vs ≡ true
-  from xs vs w = and_from _ _ (eq-eqb (length vs) q.count w.long) (and_from _ _ w.there w.fit)
+  from xs vs w = and_from _ _ (eq-eqb (length vs) q.given.count w.long) (and_from _ _ w.there w.fit)
 
   module _ (xs : List Fact) (x : Fact) where
     -- one fact more
@@ -51,12 +51,12 @@ module _ (q : Query) (a : Option (List ℕ)) (few : q.count < 4) where
     old vs h = let w = parts xs vs h in from more vs (record { long = w.long; there = split vs ∙ or_left (among q.predicate vs xs) (is_fact q.predicate vs x) w.there; fit = w.fit })
 
     -- the fact is one that answers, with these arguments
-    this : (vs : List ℕ) → length vs ≡ q.count → fits q a vs ≡ true → is_fact q.predicate vs x ≡ true → (answers q a x ≡ true) × (arguments x ≡ vs)
+    this : (vs : List ℕ) → length vs ≡ q.given.count → fits q a vs ≡ true → is_fact q.predicate vs x ≡ true → (answers q a x ≡ true) × (arguments x ≡ vs)
     this vs l f h =
-        let p = and_parts (eqb x.predicate q.predicate) (eqb x.count (length vs) && same (arguments x) vs) h in
-        let r = and_parts (eqb x.count (length vs)) (same (arguments x) vs) p.1 in
+        let p = and_parts (eqb x.predicate q.predicate) (eqb x.values.count (length vs) && same (arguments x) vs) h in
+        let r = and_parts (eqb x.values.count (length vs)) (same (arguments x) vs) p.1 in
         let e : arguments x ≡ vs = same_is (arguments x) vs r.1 in
-        (and_from _ _ p.0 (and_from _ _ (eq-eqb x.count q.count (eqb-true x.count (length vs) r.0 ∙ l)) (ap (fits q a) e ∙ f)), e)
+        (and_from _ _ p.0 (and_from _ _ (eq-eqb x.values.count q.given.count (eqb-true x.values.count (length vs) r.0 ∙ l)) (ap (fits q a) e ∙ f)), e)
 
     either : (vs : List ℕ) → asked more vs ≡ true → (asked xs vs ≡ true) ⊎ ((answers q a x ≡ true) × (arguments x ≡ vs))
     either vs h =
@@ -67,16 +67,16 @@ module _ (q : Query) (a : Option (List ℕ)) (few : q.count < 4) where
         ]
 
     record New : Type 0 where
-      long : length (arguments x) ≡ q.count
+      long : length (arguments x) ≡ q.given.count
       asks : asked more (arguments x) ≡ true
 
     new : answers q a x ≡ true → New
     new h =
-        let p = and_parts (eqb x.predicate q.predicate) (eqb x.count q.count && fits q a (arguments x)) h in
-        let r = and_parts (eqb x.count q.count) (fits q a (arguments x)) p.1 in
-        let e : x.count ≡ q.count = eqb-true x.count q.count r.0 in
-        let l : length (arguments x) ≡ x.count = three_taken x.count x.values (omega (arith, e, few)) in
-        let is : is_fact q.predicate (arguments x) x ≡ true = and_from _ _ p.0 (and_from _ _ (eq-eqb x.count (length (arguments x)) (sym l)) (same_itself (arguments x))) in
+        let p = and_parts (eqb x.predicate q.predicate) (eqb x.values.count q.given.count && fits q a (arguments x)) h in
+        let r = and_parts (eqb x.values.count q.given.count) (fits q a (arguments x)) p.1 in
+        let e : x.values.count ≡ q.given.count = eqb-true x.values.count q.given.count r.0 in
+        let l : length (arguments x) ≡ x.values.count = three_taken x.values.count x.values.first (omega (arith, e, few)) in
+        let is : is_fact q.predicate (arguments x) x ≡ true = and_from _ _ p.0 (and_from _ _ (eq-eqb x.values.count (length (arguments x)) (sym l)) (same_itself (arguments x))) in
         record {
           long = l ∙ e;
           asks = from more (arguments x) (record { long = l ∙ e; there = split (arguments x) ∙ or_right (among q.predicate (arguments x) xs) (is_fact q.predicate (arguments x) x) is; fit = r.1 });
@@ -94,13 +94,13 @@ module _ (q : Query) (a : Option (List ℕ)) (few : q.count < 4) where
         (arguments x, refl, (new y).asks, λ ws g. elim (either ws g) [ inl o ↦ absurd (both_ways (asked xs ws) (h ws) o) | inr o ↦ ap (λ (us : List ℕ). before us (arguments x)) (sym o.1) ∙ before_itself (arguments x) ])
     take y (Some t) (vs, e, h, k) =
         let u = arguments x in
-        let l : length vs ≡ q.count = (parts xs vs h).long in
+        let l : length vs ≡ q.given.count = (parts xs vs h).long in
         let same-order : before t (padded u) ≡ before vs u = ap (λ (s : List ℕ). before s (padded u)) e ∙ before_padded vs u (l ∙ sym (new y).long) (omega (arith, l, few)) in
         elim (cases_Bool (before vs u)) [
           | inl b ↦ subst (λ (c : Bool). Least (asked more) (Some (cond c t (padded u)))) (sym (same-order ∙ b))
-              (vs, e, old vs h, λ ws g. elim (either ws g) [ inl o ↦ k ws o | inr o ↦ ap (λ (us : List ℕ). before us vs) (sym o.1) ∙ before_turned vs u b ])
+              (vs, e, old vs h, λ ws g. elim (either ws g) [ inl o ↦ k ws o | inr o ↦ ap (λ (us : List ℕ). before us vs) (sym o.1) ∙ ranked.one_way vs u b ])
           | inr b ↦ subst (λ (c : Bool). Least (asked more) (Some (cond c t (padded u)))) (sym (same-order ∙ b))
-              (u, refl, (new y).asks, λ ws g. elim (either ws g) [ inl o ↦ not_before_through ws vs u (k ws o) b | inr o ↦ ap (λ (us : List ℕ). before us u) (sym o.1) ∙ before_itself u ])
+              (u, refl, (new y).asks, λ ws g. elim (either ws g) [ inl o ↦ ranked.chain ws vs u (k ws o) b | inr o ↦ ap (λ (us : List ℕ). before us u) (sym o.1) ∙ before_itself u ])
         ]
 
     step : (best : Option (List ℕ)) → Least (asked xs) best → Least (asked more) (better q a best x)
@@ -117,7 +117,7 @@ module _ (q : Query) (a : Option (List ℕ)) (few : q.count < 4) where
       (onward (done ++ (x ∷ [])) rest (better q a best x) (step done x best h))
 
   none_asked : (vs : List ℕ) → asked [] vs ≡ false
-  none_asked vs = and_right (eqb (length vs) q.count) false refl
+  none_asked vs = and_right (eqb (length vs) q.given.count) false refl
 
   pub scanned : (xs : List Fact) → Least (asked xs) (fold (better q a) None xs)
   scanned xs = onward [] xs None none_asked

@@ -46,4 +46,4 @@ related R q a vs = length vs == 2 && (holds_of (Some R) vs && fits q a vs)
 
 -- where all that is needed is given, the least of these
 abbrev pub Chosen : Relation → Query → Option (List ℕ) → Option (List ℕ) → Type 0
-Chosen R q a r = given (needs_of R) 0 (places q.given) ≡ Ok tt → Least (related R q a) r
+Chosen R q a r = given (needs_of R) 0 (places q.given.first) ≡ Ok tt → Least (related R q a) r

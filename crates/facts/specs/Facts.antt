@@ -30,15 +30,15 @@ given K i (g ∷ gs) = cond (missing K i g) (Err (refusal_at ValueAbsent i)) (gi
 -- whether a query may be answered, by what it needs, and else the refusal
 abbrev pub answerable : Option NumberSet → Query → Result (Unit {0}) Refusal
 answerable None q = Err (refusal_at NotKnown q.predicate)
-answerable (Some K) q = given K 0 (places q.given)
+answerable (Some K) q = given K 0 (places q.given.first)
 
 abbrev pub allowed : Facts → Query → Result (Unit {0}) Refusal
-allowed f q = answerable (f.needs q.predicate q.count) q
+allowed f q = answerable (f.needs q.predicate q.given.count) q
 
 -- the arguments that answer a query at a position: true there, as many as asked for, agreeing with those given, and
 -- greater than the tuple before
 abbrev pub wanted : Facts → ℕ → Query → Option (List ℕ) → List ℕ → Bool
-wanted f p q a vs = length vs == q.count && (f.holds p q.predicate vs && fits q a vs)
+wanted f p q a vs = length vs == q.given.count && (f.holds p q.predicate vs && fits q a vs)
 
 -- the least of the arguments that pass a test, as a tuple, or that none does
 abbrev pub Least : (List ℕ → Bool) → Option (List ℕ) → Type 0

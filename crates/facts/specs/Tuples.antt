@@ -26,11 +26,11 @@ places gs = slice_index_or gs 0 None ∷ slice_index_or gs 1 None ∷ slice_inde
 
 -- the arguments of a fact: the first of its values
 abbrev pub arguments : Fact → List ℕ
-arguments x = take x.count (three x.values)
+arguments x = take x.values.count (three x.values.first)
 
 -- a fact of a predicate with these arguments
 abbrev pub is_fact : ℕ → List ℕ → Fact → Bool
-is_fact q vs x = x.predicate == q && (x.count == length vs && same (arguments x) vs)
+is_fact q vs x = x.predicate == q && (x.values.count == length vs && same (arguments x) vs)
 
 -- such a fact is among these
 abbrev pub among : ℕ → List ℕ → List Fact → Bool
@@ -43,7 +43,7 @@ padded vs = take 3 (vs ++ (0 ∷ 0 ∷ 0 ∷ []))
 
 -- a journal takes the fact
 abbrev pub recordable : Fact → Bool
-recordable x = nat_lt x.predicate 32 && nat_lt x.count 4
+recordable x = nat_lt x.predicate 32 && nat_lt x.values.count 4
 
 -- a value is the one given, where one is
 abbrev pub allows : Option ℕ → ℕ → Bool
@@ -63,8 +63,8 @@ past (Some t) vs = before (take (length vs) (three t)) vs
 
 -- arguments agree with what a query gives, and are greater than the tuple before
 abbrev pub fits : Query → Option (List ℕ) → List ℕ → Bool
-fits q a vs = agrees (places q.given) vs && past a vs
+fits q a vs = agrees (places q.given.first) vs && past a vs
 
 -- a fact answers a query with a tuple that is greater than the one before
 abbrev pub answers : Query → Option (List ℕ) → Fact → Bool
-answers q a x = x.predicate == q.predicate && (x.count == q.count && fits q a (arguments x))
+answers q a x = x.predicate == q.predicate && (x.values.count == q.given.count && fits q a (arguments x))

@@ -1,12 +1,16 @@
 //! A source that calculates its facts: relations of two numbers, the same at all positions.
 ghost use Rattle.std.specs.Prelude.{◌≡◌, Some, None, slice_index_or};
+ghost use Rattle.std.specs.Option.{ok_or};
+ghost use Rattle.refusal.specs.Causes.{refusal_at};
+ghost use Rattle.refusal.specs.declared.Cause.TheVariants.{NotKnown};
 ghost use Rattle.sets.specs.Sets.{members};
 ghost use Rattle.facts.specs.Calculated.{calculated, relation_of, relates, needs_of, Chosen};
 ghost use Rattle.facts.specs.Tried.{pair_of, second, first, first_sibling};
 
 use crate::fact::{Query, Tuple};
+use crate::sought::Sought;
 use crate::source::{FactSource, allow};
-use refusal::Refusal;
+use refusal::{Cause, Refusal};
 use sets::SmallSet;
 use table::Value;
 
@@ -18,19 +22,24 @@ pub(crate) enum Relation {
     Sibling,
 }
 
-impl Relation {
-    fn of(predicate: u8) -> Option<Relation>
-        ensures { result ≡ relation_of predicate }
-    {
+/// The relation of a predicate.
+impl TryFrom<u8> for Relation {
+    type Error = Refusal;
+
+    ghost try_from_gives = { λ predicate relation. relation ≡ ok_or (relation_of predicate) (refusal_at NotKnown predicate) };
+
+    fn try_from(predicate: u8) -> Result<Relation, Refusal> {
         match predicate {
-            32 => Some(Relation::Equal),
-            33 => Some(Relation::Less),
-            34 => Some(Relation::Class),
-            35 => Some(Relation::Sibling),
-            _ => None,
+            32 => Ok(Relation::Equal),
+            33 => Ok(Relation::Less),
+            34 => Ok(Relation::Class),
+            35 => Ok(Relation::Sibling),
+            _ => Err(Cause::NotKnown.at(usize::from(predicate))),
         }
     }
+}
 
+impl Relation {
     fn needed(self) -> SmallSet
         ensures { members result ≡ needs_of self }
     {
@@ -52,13 +61,10 @@ impl Relation {
     }
 
     /// The y that is given, or else the least that may be related to x, past the tuple before.
-    fn second(self, x: Value, given: Option<Value>, after: Option<Tuple>) -> Value
-        ensures { result ≡ second self x given after }
+    fn second(self, x: Value, sought: &Sought) -> Value
+        ensures { result ≡ second self x (slice_index_or sought.now.query.given.first 1 None) sought.now.after }
     {
-        match given {
-            Some(y) => y,
-            None => self.first(x, after),
-        }
+        sought.query.given.first[1].unwrap_or_else(|| self.first(x, sought.after))
     }
 
     fn first(self, x: Value, after: Option<Tuple>) -> Value
@@ -72,30 +78,19 @@ impl Relation {
     }
 
     /// The least pair that answers the query and is greater than the one before.
-    fn least(self, query: &Query, after: Option<Tuple>) -> Option<Tuple>
-        ensures { Chosen self query.now after result }
+    fn least(self, sought: &Sought) -> Option<Tuple>
+        ensures { Chosen self sought.now.query sought.now.after result }
     {
-        match query.given[0] {
-            Some(x) => self.least_with(x, query, after),
-            None => None,
-        }
-    }
-
-    fn least_with(self, x: Value, query: &Query, after: Option<Tuple>) -> Option<Tuple>
-        ensures { slice_index_or query.now.given 0 None ≡ Some x → Chosen self query.now after result }
-    {
-        self.pair(x, self.second(x, query.given[1], after), query, after)
+        let x = sought.query.given.first[0]?;
+        let y = self.second(x, sought);
+        self.pair(x, y, sought)
     }
 
     /// The pair of x and y, where it answers the query and is greater than the one before.
-    fn pair(self, x: Value, y: Value, query: &Query, after: Option<Tuple>) -> Option<Tuple>
-        ensures { result ≡ pair_of self x y query.now after }
+    fn pair(self, x: Value, y: Value, sought: &Sought) -> Option<Tuple>
+        ensures { result ≡ pair_of self x y sought.now.query sought.now.after }
     {
-        if self.relates(x, y) && query.fits(after, &[x, y]) {
-            Some([x, y, 0])
-        } else {
-            None
-        }
+        (self.relates(x, y) && sought.fits(&[x, y])).then_some([x, y, 0])
     }
 }
 
@@ -104,6 +99,7 @@ fn first_sibling(x: Value, after: Option<Tuple>) -> Value
     ensures { result ≡ first_sibling x after }
 {
     let least = x / 256 * 256;
+    // No `map_or`: a closure that takes an array by value gets no contract, and the proof didn't close.
     match after {
         Some(tuple) if tuple[0] == x && tuple[1] >= least => tuple[1].saturating_add(1),
         _ => least,
@@ -118,10 +114,8 @@ impl FactSource for Calculated {
     ghost facts = { λ _. calculated };
 
     fn known(&self, predicate: u8, count: u8) -> Option<SmallSet> {
-        match Relation::of(predicate) {
-            Some(relation) if count == 2 => Some(relation.needed()),
-            _ => None,
-        }
+        let relation = Relation::try_from(predicate).ok()?;
+        (count == 2).then_some(relation.needed())
     }
 
     fn find(
@@ -130,10 +124,12 @@ impl FactSource for Calculated {
         query: &Query,
         after: Option<Tuple>,
     ) -> Result<Option<Tuple>, Refusal> {
-        allow(self.known(query.predicate, query.count), query)?;
-        match Relation::of(query.predicate) {
-            Some(relation) => Ok(relation.least(query, after)),
-            None => Ok(None),
-        }
+        allow(self.known(query.predicate, query.given.count), query)?;
+        let relation = Relation::try_from(query.predicate)?;
+        let sought = Sought {
+            query: *query,
+            after,
+        };
+        Ok(relation.least(&sought))
     }
 }

@@ -3,10 +3,10 @@
 
 mod calculated;
 mod fact;
-mod scan;
+mod sought;
 mod source;
 
 pub use calculated::Calculated;
 pub use fact::{Fact, Query, Tuple};
-pub use scan::nearer;
+pub use sought::Sought;
 pub use source::{FactSource, allow};

@@ -2,7 +2,7 @@
 ghost use Rattle.std.specs.Prelude.{◌≡◌};
 ghost use Rattle.std.specs.Option.{option_map};
 ghost use Rattle.sets.specs.Sets.{members};
-ghost use Rattle.facts.specs.Facts.{Facts, Found, answerable, missing, given};
+ghost use Rattle.facts.specs.Facts.{Facts, Found, answerable, given};
 ghost use Rattle.facts.specs.Tuples.{places};
 
 use crate::fact::{Query, Tuple};
@@ -11,6 +11,7 @@ use sets::SmallSet;
 use table::Value;
 
 /// A source of facts. No call alters it.
+// The arguments of `known` and `find` stand apart, not as one value: the subject names these calls.
 pub trait FactSource {
     /// The facts that are true at each position, and what is known of which predicates.
     ghost facts: { Self → Facts };
@@ -33,26 +34,16 @@ pub trait FactSource {
 pub fn allow(needed: Option<SmallSet>, query: &Query) -> Result<(), Refusal>
     ensures { result ≡ answerable (option_map members needed) query.now }
 {
-    match needed {
-        Some(needed) => all_given(needed, &query.given),
-        None => Err(Cause::NotKnown.at(usize::from(query.predicate))),
-    }
+    let needed = needed.ok_or(Cause::NotKnown.at(usize::from(query.predicate)))?;
+    all_given(needed, &query.given.first)
 }
 
-/// Whether an argument must be given and is not.
-fn is_missing(needed: SmallSet, argument: u8, value: Option<Value>) -> bool
-    ensures { result ≡ missing (members needed) argument value }
-{
-    needed.contains(argument) && value.is_none()
-}
-
+/// Ok if each argument that must be given is, and else the refusal at the first that is not.
 fn all_given(needed: SmallSet, values: &[Option<Value>; 3]) -> Result<(), Refusal>
     ensures { result ≡ given (members needed) 0 (places values.now) }
 {
-    for i in 0..3 {
-        if is_missing(needed, i as u8, values[i]) {
-            return Err(Cause::ValueAbsent.at(i));
-        }
-    }
-    Ok(())
+    (0..3)
+        .zip(values)
+        .position(|(argument, value)| needed.contains(argument) && value.is_none())
+        .map_or(Ok(()), |absent| Err(Cause::ValueAbsent.at(absent)))
 }

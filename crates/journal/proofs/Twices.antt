@@ -14,7 +14,7 @@ use Rattle.journal.specs.Twice.{committed, Twice, CommitsTwo}
 
 costs_like : (c d : ℕ → ℕ) (xs : List Fact) → ((n : ℕ) → d n ≡ c n) → costs d xs ≡ costs c xs
 costs_like c d [] e = refl
-costs_like c d (x ∷ xs) e = λ i. e x.count i + costs_like c d xs e i
+costs_like c d (x ∷ xs) e = λ i. e x.values.count i + costs_like c d xs e i
 
 -- a commit that is taken has a stamp that is allowed
 allowed_stamp : (t : Trace) (s : ℕ) (xs : List Fact) → is_ok (commit_answer t s xs) ≡ true → t.next ≤ s

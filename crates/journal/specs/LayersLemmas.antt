@@ -16,12 +16,12 @@ use Rattle.journal.specs.Trace.{Trace, own, Added, Grown, Commits, sound_from, c
 use Rattle.journal.specs.Layers.{merged, Beside}
 
 module _ (f g : Facts) (p p' : ℕ) (q : Query) (a : Option (List ℕ))
-    (needs : g.needs q.predicate q.count ≡ f.needs q.predicate q.count)
+    (needs : g.needs q.predicate q.given.count ≡ f.needs q.predicate q.given.count)
     (holds : (vs : List ℕ) → g.holds p' q.predicate vs ≡ f.holds p q.predicate vs) where
   same_cases : (r : Result (Option (List ℕ)) Refusal) → FoundCases f p q a r → FoundCases g p' q a r
   same_cases (Ok r) (o, h) = (
     ap (λ K. answerable K q) needs ∙ o,
-    like (wanted f p q a) (wanted g p' q a) (λ vs. ap (λ (b : Bool). (length vs == q.count) && (b && fits q a vs)) (holds vs)) r h,
+    like (wanted f p q a) (wanted g p' q a) (λ vs. ap (λ (b : Bool). (length vs == q.given.count) && (b && fits q a vs)) (holds vs)) r h,
   )
   same_cases (Err e) o = ap (λ K. answerable K q) needs ∙ o
 
@@ -34,7 +34,7 @@ abbrev pub Recorded : List Fact → Type 0
 Recorded xs = (q : ℕ) (vs : List ℕ) → own q ≡ false → among q vs xs ≡ false
 
 other : (x : Fact) (q : ℕ) (vs : List ℕ) → recordable x ≡ true → own q ≡ false → is_fact q vs x ≡ false
-other x q vs r o = and_left _ _ (ne_eqb x.predicate q (λ e. both_ways (own q) o (ap own (sym e) ∙ (and_parts (own x.predicate) (nat_lt x.count 4) r).0)))
+other x q vs r o = and_left _ _ (ne_eqb x.predicate q (λ e. both_ways (own q) o (ap own (sym e) ∙ (and_parts (own x.predicate) (nat_lt x.values.count 4) r).0)))
 
 sound_head : (i : ℕ) (x : Fact) (xs : List Fact) (b : Bool) → recordable x ≡ b → is_ok (sound_from i (x ∷ xs)) ≡ true → (recordable x ≡ true) × (is_ok (sound_from (i + 1) xs) ≡ true)
 sound_head i x xs true e h = (e, subst (λ (c : Bool). is_ok (cond c (sound_from (i + 1) xs) (Err (refusal_at BadFact i))) ≡ true) e h)

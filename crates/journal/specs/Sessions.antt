@@ -1,9 +1,10 @@
 -- What a session makes of the answers and the changes below.
-use Rattle.std.specs.Prelude.{◌≡◌, ℕ, zero, suc, ◌+◌, ◌-◌, ◌^◌, ◌<◌, ◌≤◌, Bool, true, false, not, ◌&&◌, ◌||◌, List, [], ◌∷◌, ◌++◌, length, take, drop, None, Ok, Err, Result, ◌==◌, ◌≢◌, nat_le, nat_lt, slice_index, refl}
+use Rattle.std.specs.Prelude.{◌≡◌, ℕ, zero, suc, ◌+◌, ◌-◌, ◌^◌, ◌<◌, ◌≤◌, Bool, true, false, not, ◌&&◌, ◌||◌, List, [], ◌∷◌, length, take, drop, Ok, Err, Result, ◌==◌, ◌≢◌, nat_le, nat_lt, slice_index, refl}
 use Rattle.std.proofs.Common.{sym, ap, subst, ◌∙◌, inl, inr, arith, length-drop, length-append}
 use Rattle.std.specs.Result.{result_and}
 use Rattle.std.specs.List.{slice_get}
-use Rattle.std.proofs.lemmas.List.{drop-append-le, get_or-drop}
+use Rattle.std.proofs.lemmas.List.{take-append-le, drop-append-le, get_or-drop}
+use Rattle.std.proofs.Math.Bool.{or-false}
 use Rattle.std.proofs.lemmas.Bool.{ne_eqb, eq-eqb, and_right, cases_Bool, cases_eq, ltb-false, lt-leb, le-leb}
 use Rattle.refusal.specs.Causes.{refusal_at}
 use Rattle.refusal.specs.declared.Cause.TheVariants.{BadFact, StampTooLow, NoRoom, NotShown}
@@ -19,16 +20,6 @@ pub nth_later : (b : ℕ) (xs : List ℕ) (p : ℕ) → slice_get xs (p + b) ≡
 nth_later zero xs p = ap (slice_get xs) (omega arith)
 nth_later (suc b) [] p = refl
 nth_later (suc b) (x ∷ xs) p = ap (slice_get (x ∷ xs)) (let e : p + suc b ≡ suc (p + b) = omega arith in e) ∙ nth_later b xs p
-
-pub nth_none : (xs : List ℕ) (p : ℕ) → length xs ≤ p → slice_get xs p ≡ None
-nth_none [] p h = refl
-nth_none (x ∷ xs) zero h = absurd (omega arith)
-nth_none (x ∷ xs) (suc p) h = nth_none xs p (omega arith)
-
-take_front : (b : ℕ) (xs ys : List ℕ) → b ≤ length xs → take b (xs ++ ys) ≡ take b xs
-take_front zero xs ys h = refl
-take_front (suc b) [] ys h = absurd (omega arith)
-take_front (suc b) (x ∷ xs) ys h = ap (λ (l : List ℕ). x ∷ l) (take_front b xs ys (omega arith))
 
 shifted_eqb : (p b k : ℕ) → b ≤ k → (p + b == k) ≡ (p == k - b)
 shifted_eqb p b k h = elim (cases_eq (p + b) k) [
@@ -48,11 +39,7 @@ module _ (f g : Facts) (k b : ℕ) (xs : List Fact) (a : Added f g k xs) (h : b 
   }
 
   untouched : (p q : ℕ) (vs : List ℕ) → (p ≢ k) → g.holds p q vs ≡ f.holds p q vs
-  untouched p q vs n = a.holds p q vs ∙ rw (ne_eqb p k n) (or_none (f.holds p q vs))
-    where
-      or_none : (t : Bool) → (t || false) ≡ t
-      or_none true = refl
-      or_none false = refl
+  untouched p q vs n = a.holds p q vs ∙ rw (ne_eqb p k n) (or-false (f.holds p q vs))
 
   pub added_behind : (t u : Trace) → take b u.stamps ≡ take b t.stamps → Behind f t g u b
   added_behind t u s = record {
@@ -105,9 +92,9 @@ late_owned t b p x h =
     let below : nat_le (shown t) (p + b) ≡ false = lt-leb (shown t) (p + b) h in
     let shown-here : nat_le (shown (later t b)) p ≡ false = lt-leb (shown (later t b)) p (omega (arith, shown_later t b, h)) in
     rw (below, shown-here)
-    (then_owned b (unless (not (recordable x)) (refusal_at BadFact 0)) (unless (nat_lt t.free (t.fact x.count)) (refusal_at NoRoom (shown t)))
-    ∙ (λ i. result_and (unless_owned b (not (recordable x)) (refusal_at BadFact 0) i) (unless_owned b (nat_lt t.free (t.fact x.count)) (refusal_at NoRoom (shown t)) i))
-    ∙ ap (λ (n : ℕ). result_and (unless (not (recordable x)) (refusal_at BadFact 0)) (unless (nat_lt t.free (t.fact x.count)) (refusal_at NoRoom n))) (sym (shown_later t b)))
+    (then_owned b (unless (not (recordable x)) (refusal_at BadFact 0)) (unless (nat_lt t.free (t.fact x.values.count)) (refusal_at NoRoom (shown t)))
+    ∙ (λ i. result_and (unless_owned b (not (recordable x)) (refusal_at BadFact 0) i) (unless_owned b (nat_lt t.free (t.fact x.values.count)) (refusal_at NoRoom (shown t)) i))
+    ∙ ap (λ (n : ℕ). result_and (unless (not (recordable x)) (refusal_at BadFact 0)) (unless (nat_lt t.free (t.fact x.values.count)) (refusal_at NoRoom n))) (sym (shown_later t b)))
 
 pub late_unshown : (t : Trace) (b p : ℕ) (x : Fact) → shown t - b ≤ p → Err (refusal_at NotShown p) ≡ late_answer (later t b) p x
 late_unshown t b p x h =
@@ -126,7 +113,7 @@ module _ {J : Type 0} (f : J → Facts) (m : J → Trace) (i j : J) (b : ℕ) (h
   })
 
   pub grown_behind : (s : ℕ) (xs : List Fact) → Grown (f i) (m i) (f j) (m j) s xs → Behind (f i) (m i) (f j) (m j) b
-  grown_behind s xs w = added_behind (f i) (f j) (shown (m i)) b xs w.facts h (omega arith) (m i) (m j) (ap (take b) w.stamps ∙ take_front b (m i).stamps (s ∷ []) h)
+  grown_behind s xs w = added_behind (f i) (f j) (shown (m i)) b xs w.facts h (omega arith) (m i) (m j) (ap (take b) w.stamps ∙ take-append-le b (m i).stamps (s ∷ []) h)
 
   pub grown_shown : (s : ℕ) (xs : List Fact) → Grown (f i) (m i) (f j) (m j) s xs → b ≤ shown (m j)
   grown_shown s xs w = omega (arith, ap length w.stamps ∙ length-append (m i).stamps (s ∷ []))

@@ -8,6 +8,7 @@ use Rattle.facts.specs.declared.Fact.{Fact}
 use Rattle.facts.specs.Facts.{Facts}
 use Rattle.sets.specs.Sets.{NumberSet, none}
 use Rattle.facts.specs.Tuples.{among, recordable}
+use Rattle.journal.specs.declared.standing.Standing.{Standing}
 
 -- stamps: of the positions shown. next: the least next stamp. free: the free units. mark: the cost of a mark. fact: the
 -- cost of a fact, by its count of arguments.
@@ -59,7 +60,7 @@ pub record Added (f g : Facts) (k : ℕ) (xs : List Fact) : Type 0 where
 -- what facts cost
 abbrev pub costs : (ℕ → ℕ) → List Fact → ℕ
 costs fact [] = 0
-costs fact (x ∷ xs) = fact x.count + costs fact xs
+costs fact (x ∷ xs) = fact x.values.count + costs fact xs
 
 -- Ok, or the refusal at the first fact from i on that no journal takes
 abbrev pub sound_from : ℕ → List Fact → Result (Unit {0}) Refusal
@@ -70,19 +71,33 @@ sound_from i (x ∷ xs) = cond (recordable x) (sound_from (i + 1) xs) (Err (refu
 abbrev pub unless : Bool → Refusal → Result (Unit {0}) Refusal
 unless test e = cond test (Err e) (Ok tt)
 
+-- whether the free units cover a cost
+abbrev pub affordable : Standing → ℕ → Result (Unit {0}) Refusal
+affordable w cost = unless (nat_lt w.free cost) (refusal_at NoRoom w.shown)
+
+-- whether a commit that costs so much is taken, and else the first refusal
+abbrev pub allowed_commit : Standing → ℕ → List Fact → ℕ → Result (Unit {0}) Refusal
+allowed_commit w s xs cost =
+    result_and (sound_from 0 xs)
+    (result_and (unless (nat_lt s w.next) (refusal_at StampTooLow w.shown)) (affordable w cost))
+
+-- whether a late fact that costs so much is taken, and else the first refusal
+abbrev pub allowed_late : Standing → ℕ → Fact → ℕ → Result (Unit {0}) Refusal
+allowed_late w k x cost =
+    result_and (unless (nat_le w.shown k) (refusal_at NotShown k))
+    (result_and (unless (not (recordable x)) (refusal_at BadFact 0)) (affordable w cost))
+
+-- what decides whether a journal takes something
+abbrev pub standing : Trace → Standing
+standing t = record { shown = shown t; next = t.next; free = t.free }
+
 -- whether a commit is taken, and else the first refusal
 abbrev pub commit_answer : Trace → ℕ → List Fact → Result (Unit {0}) Refusal
-commit_answer t s xs =
-    result_and (sound_from 0 xs)
-    (result_and (unless (nat_lt s t.next) (refusal_at StampTooLow (shown t)))
-    (unless (nat_lt t.free (t.mark + costs t.fact xs)) (refusal_at NoRoom (shown t))))
+commit_answer t s xs = allowed_commit (standing t) s xs (t.mark + costs t.fact xs)
 
 -- whether a late fact is taken, and else the first refusal
 abbrev pub late_answer : Trace → ℕ → Fact → Result (Unit {0}) Refusal
-late_answer t k x =
-    result_and (unless (nat_le (shown t) k) (refusal_at NotShown k))
-    (result_and (unless (not (recordable x)) (refusal_at BadFact 0))
-    (unless (nat_lt t.free (t.fact x.count)) (refusal_at NoRoom (shown t))))
+late_answer t k x = allowed_late (standing t) k x (t.fact x.values.count)
 
 -- one position more, with these facts
 pub record Grown (f : Facts) (t : Trace) (g : Facts) (u : Trace) (s : ℕ) (xs : List Fact) : Type 0 where
@@ -98,7 +113,7 @@ pub record Noted (f : Facts) (t : Trace) (g : Facts) (u : Trace) (k : ℕ) (x : 
   pub facts : Added f g k (x ∷ [])
   pub stamps : u.stamps ≡ t.stamps
   pub next : u.next ≡ t.next
-  pub free : u.free + t.fact x.count ≡ t.free
+  pub free : u.free + t.fact x.values.count ≡ t.free
   pub mark : u.mark ≡ t.mark
   pub fact : (n : ℕ) → u.fact n ≡ t.fact n
 

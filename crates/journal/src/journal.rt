@@ -13,6 +13,7 @@ use sets::SmallSet;
 pub type Stamp = u32;
 
 /// A source of facts that also has stamps and takes new positions.
+// The arguments of `commit` and `late` stand apart, not as one value: the subject names these calls.
 pub trait Journal: FactSource {
     /// The stamps of the positions shown, the least next stamp, the free units, and what a mark and a fact cost.
     ghost trace: { Self → Trace };
@@ -64,21 +65,15 @@ pub(crate) fn is_own(predicate: u8) -> bool
 pub fn known_to_journals(predicate: u8, count: u8) -> Option<SmallSet>
     ensures { option_map members result ≡ own_needs predicate count }
 {
-    if is_own(predicate) && count < 4 {
-        Some(SmallSet::none())
-    } else {
-        None
-    }
+    (is_own(predicate) && count < 4).then_some(SmallSet::none())
 }
 
 /// Whether a journal takes all of these facts, and else the refusal at the first that none takes.
 pub fn check_facts(facts: &[Fact]) -> Result<(), Refusal>
     ensures { result ≡ sound_from 0 facts.now }
 {
-    for i in 0..facts.len() {
-        if !facts[i].is_recordable() {
-            return Err(Cause::BadFact.at(i));
-        }
-    }
-    Ok(())
+    facts
+        .iter()
+        .position(|fact| !fact.is_recordable())
+        .map_or(Ok(()), |bad| Err(Cause::BadFact.at(bad)))
 }

@@ -49,8 +49,10 @@ fn own_place(refusal: Refusal, hidden: usize) -> Refusal
     ensures { result ≡ own_place refusal hidden }
 {
     match refusal.cause {
-        Cause::StampTooLow => Cause::StampTooLow.at(refusal.place.saturating_sub(hidden)),
-        Cause::NoRoom => Cause::NoRoom.at(refusal.place.saturating_sub(hidden)),
+        Cause::StampTooLow | Cause::NoRoom => Refusal {
+            place: refusal.place.saturating_sub(hidden),
+            ..refusal
+        },
         _ => refusal,
     }
 }
@@ -68,13 +70,11 @@ impl<J: Journal> FactSource for Session<J> {
         query: &Query,
         after: Option<Tuple>,
     ) -> Result<Option<Tuple>, Refusal> {
-        match position.checked_add(self.hidden()) {
-            Some(below) => self.lower.find(below, query, after),
-            None => {
-                allow(self.lower.known(query.predicate, query.count), query)?;
-                Ok(None)
-            }
-        }
+        let Some(below) = position.checked_add(self.hidden()) else {
+            allow(self.known(query.predicate, query.given.count), query)?;
+            return Ok(None);
+        };
+        self.lower.find(below, query, after)
     }
 }
 
@@ -94,10 +94,7 @@ impl<J: Journal> Journal for Session<J> {
     }
 
     fn stamp(&self, position: usize) -> Option<Stamp> {
-        match position.checked_add(self.hidden()) {
-            Some(below) => self.lower.stamp(below),
-            None => None,
-        }
+        self.lower.stamp(position.checked_add(self.hidden())?)
     }
 
     fn least_next_stamp(&self) -> u64 {
@@ -110,23 +107,20 @@ impl<J: Journal> Journal for Session<J> {
 
     fn commit(&mut self, stamp: Stamp, facts: &[Fact]) -> Result<(), Refusal> {
         let hidden = self.hidden();
-        match self.lower.commit(stamp, facts) {
-            Ok(()) => {
-                self.base = hidden;
-                Ok(())
-            }
-            Err(refusal) => Err(own_place(refusal, hidden)),
-        }
+        self.lower
+            .commit(stamp, facts)
+            .map_err(|refusal| own_place(refusal, hidden))?;
+        self.base = hidden;
+        Ok(())
     }
 
     fn late(&mut self, position: usize, fact: Fact) -> Result<(), Refusal> {
-        let hidden = self.hidden();
-        if position >= self.lower.shown() - hidden {
+        if position >= self.shown() {
             return Err(Cause::NotShown.at(position));
         }
-        match self.lower.late(position + hidden, fact) {
-            Ok(()) => Ok(()),
-            Err(refusal) => Err(own_place(refusal, hidden)),
-        }
+        let hidden = self.hidden();
+        self.lower
+            .late(position + hidden, fact)
+            .map_err(|refusal| own_place(refusal, hidden))
     }
 }

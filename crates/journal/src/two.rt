@@ -22,10 +22,8 @@ pub fn commit_two<J: Journal>(
     ensures does { CommitsTwo J.FactSource.facts J.Journal.trace journal.old journal.new first facts.now second more.now result }
     ensures keeps { J.Journal.keeps journal.old journal.new }
 {
-    match journal.commit(first, facts) {
-        Ok(()) => journal.commit(second, more),
-        Err(refusal) => Err(refusal),
-    }
+    journal.commit(first, facts)?;
+    journal.commit(second, more)
 }
 
 /// Two commits in a session of their own, over a journal that is joined with a second source; both layers are taken

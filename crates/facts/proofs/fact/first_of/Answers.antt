@@ -6,4 +6,4 @@ pub returns : goal.returns
 returns c =
     ap (λ (n : ℕ). take n c.args.values.now) c.min.ensures
     ∙ take_min c.args.count 3 c.args.values.now c.told-values
-    ∙ ap (λ (vs : List ℕ). take c.args.count vs) (of_three c.args.values.now c.told-values)
+    ∙ ap (λ (vs : List ℕ). take c.args.count vs) (of_three 0 c.args.values.now c.told-values)

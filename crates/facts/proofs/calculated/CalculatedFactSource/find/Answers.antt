@@ -1,15 +1,19 @@
-use Rattle.std.proofs.Common.{◌≡◌, Ok, sym, ap, ◌∙◌}
-use Rattle.facts.specs.Calculated.{calculated}
+use Rattle.std.proofs.Common.{◌≡◌, Some, None, Ok, arith, sym, ap, ◌∙◌}
+use Rattle.facts.specs.Calculated.{calculated, relation_of}
 use Rattle.facts.specs.Facts.{answerable, allowed}
 use Rattle.facts.proofs.Relations.{found, unrelated}
 use Rattle.facts.proofs.calculated.CalculatedFactSource.find.Goals as goal
 
-pub returns-in-Some : goal.returns-in-Some
-returns-in-Some c =
-    let h : allowed calculated c.args.query.now ≡ Ok tt = sym (c.in_ok-allow.ensures ∙ ap (λ K. answerable K c.args.query.now) c.known.ensures) in
-    found c.args._position c.args.query.now c.args.after c.in-Some.relation c.least.result (sym c.of.ensures ∙ c.in-Some.is) h c.least.ensures
+pub returns : goal.returns
+returns c =
+    let q = c.args.query.now in
+    let h : allowed calculated q ≡ Ok tt = sym (c.in_ok-allow.ensures ∙ ap (λ K. answerable K q) c.known.ensures) in
+    let e : relation_of q.predicate ≡ Some c.in_ok-relation.relation = grind arith in
+    found c.args._position q c.args.after c.in_ok-relation.relation c.least.result e h c.least.ensures
 
-pub returns-in-None : goal.returns-in-None
-returns-in-None c =
-    let h : allowed calculated c.args.query.now ≡ Ok tt = sym (c.in_ok-allow.ensures ∙ ap (λ K. answerable K c.args.query.now) c.known.ensures) in
-    unrelated c.args._position c.args.query.now c.args.after _ (sym c.of.ensures ∙ c.in-None.is) h
+pub returns-in_err-relation : goal.returns-in_err-relation
+returns-in_err-relation c =
+    let q = c.args.query.now in
+    let h : allowed calculated q ≡ Ok tt = sym (c.in_ok-allow.ensures ∙ ap (λ K. answerable K q) c.known.ensures) in
+    let e : relation_of q.predicate ≡ None = grind arith in
+    absurd (unrelated q e h)

@@ -1,51 +1,30 @@
 -- A scan of the bytes finds the least tuple.
-use Rattle.std.proofs.Common.{◌≡◌, ℕ, zero, suc, ◌+◌, ◌/◌, ◌%◌, ◌<◌, ◌≤◌, Bool, true, false, cond, ◌&&◌, ◌||◌, eqb, ltb, List, [], ◌∷◌, length, get_or, take, drop, None, Ok, fold, Option, sym, refl, ap, ◌∙◌, inl, inr, arith}
-use Rattle.std.proofs.lemmas.Bool.{and_parts, and_from, or_cases, eq-eqb, ltb-true, lt-ltb, both_ways}
+use Rattle.std.proofs.Common.{◌≡◌, ℕ, zero, suc, ◌/◌, ◌%◌, ◌<◌, Bool, true, false, cond, ◌&&◌, ◌||◌, eqb, ltb, List, [], ◌∷◌, length, take, drop, map, filter_map, None, Ok, fold, Option, sym, refl, ap, ◌∙◌, inl, inr, arith}
+use Rattle.std.proofs.lemmas.Bool.{and_parts, and_from, or_cases, ltb-true, lt-ltb, both_ways, cases_Bool}
 use Rattle.facts.specs.declared.Fact.{Fact}
 use Rattle.facts.specs.declared.Query.{Query}
 use Rattle.facts.specs.Facts.{Found, allowed}
 use Rattle.facts.specs.Scan.{better}
 use Rattle.facts.specs.Tuples.{same, three, padded, is_fact, among}
 use Rattle.journal.proofs.Facts.{scan_found}
-use Rattle.packed.specs.declared.reading.Entry.{Entry}
-use Rattle.packed.specs.declared.reading.Entry.TheVariants.{Noted}
 use Rattle.packed.specs.Format.{Item, mark, fact, num, nums, headed, more, item_at, items, whole, items_of, Whole}
-use Rattle.packed.specs.Meaning.{width, fact_read, entry_of, facts_at, nearest, held, bytes_facts}
+use Rattle.packed.specs.Meaning.{width, fact_read, entry_of, fact_in, stamp_in, stamps, facts_at, held, bytes_facts}
 use Rattle.packed.specs.Digits.{length_nums}
 use Rattle.packed.specs.Growth.{same_long}
-use Rattle.packed.proofs.Steps.{rest_next, rest_done}
 
--- one step of a scan
-step_fact : (q : Query) (a : Option (List ℕ)) (s : Option (List ℕ)) (x : Fact) (xs : List Fact) (t : Bool)
-    → fold (better q a) s (cond t (x ∷ xs) xs) ≡ fold (better q a) (cond t (better q a s x) s) xs
-step_fact q a s x xs true = refl
-step_fact q a s x xs false = refl
+-- what is read of each item gives what the items mean
+pub stamps_read : (xs : List Item) → filter_map stamp_in (map entry_of xs) ≡ stamps xs
+stamps_read [] = refl
+stamps_read (mark s ∷ xs) = ap (λ l. s ∷ l) (stamps_read xs)
+stamps_read (fact q p vs ∷ xs) = stamps_read xs
 
-step_at : (p : ℕ) (q : Query) (a : Option (List ℕ)) (s : Option (List ℕ)) (x : Item) (xs : List Item)
-    → fold (better q a) s (facts_at p (x ∷ xs)) ≡ fold (better q a) (nearest p q a s (entry_of x)) (facts_at p xs)
-step_at p q a s (mark t) xs = refl
-step_at p q a s (fact r n vs) xs = step_fact q a s (fact_read r vs) (facts_at p xs) (eqb p n)
-
-pub step_here : (p n : ℕ) (q : Query) (a s r : Option (List ℕ)) (x : Fact) → p ≡ n → r ≡ better q a s x → r ≡ nearest p q a s (Noted n x)
-step_here p n q a s r x h e = rw (eq-eqb p n h) e
-
-module _ (p : ℕ) (q : Query) (a : Option (List ℕ)) (W i : ℕ) (bs : List ℕ) (s z : Option (List ℕ)) where
-  pub scan_next : (size : ℕ) (t : Option (List ℕ)) (e : Entry) → i < length bs → size ≡ 1 + more W (get_or bs i 0)
-      → e ≡ entry_of (item_at W (get_or bs i 0) (drop (i + 1) bs)) → t ≡ nearest p q a s e
-      → fold (better q a) s (facts_at p (items_of W (drop i bs))) ≡ z → Whole W (drop i bs)
-      → (fold (better q a) t (facts_at p (items_of W (drop (i + size) bs))) ≡ z) × Whole W (drop (i + size) bs) × (i + size ≤ length bs)
-  scan_next size t e h d f g inv w =
-      let x = item_at W (get_or bs i 0) (drop (i + 1) bs) in
-      let r = rest_next (λ (l : List Item). fold (better q a) s (facts_at p l)) W i size bs x z h d refl inv w in
-      let k : t ≡ nearest p q a s (entry_of x) = g ∙ ap (nearest p q a s) f in (
-        ap (λ (u : Option (List ℕ)). fold (better q a) u (facts_at p (items_of W (drop (i + size) bs)))) k
-            ∙ sym (step_at p q a s x (items_of W (drop (i + size) bs))) ∙ r.0,
-        r.1,
-        r.2,
-      )
-
-  pub scan_done : length bs ≤ i → fold (better q a) s (facts_at p (items_of W (drop i bs))) ≡ z → s ≡ z
-  scan_done h inv = rest_done (λ (l : List Item). fold (better q a) s (facts_at p l)) W i bs z h inv
+pub facts_found : (p : ℕ) (xs : List Item) → filter_map (fact_in p) (map entry_of xs) ≡ facts_at p xs
+facts_found p [] = refl
+facts_found p (mark s ∷ xs) = facts_found p xs
+facts_found p (fact q n vs ∷ xs) = elim (cases_Bool (eqb p n)) [
+  | inl t ↦ rw t (ap (λ l. fact_read q vs ∷ l) (facts_found p xs))
+  | inr f ↦ rw f (facts_found p xs)
+]
 
 -- no fact has more than three arguments
 small : List Item → Bool

@@ -1,3 +1,4 @@
+pub mod Bytes
 pub mod Canon
-pub mod Steps
 pub mod Finding
+pub mod Steps

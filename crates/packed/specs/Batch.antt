@@ -1,8 +1,7 @@
 -- What is left of the facts to write, as the loops' invariants say it.
-use Rattle.std.specs.Prelude.{◌≡◌, ℕ, ◌+◌, ◌-◌, ◌<◌, ◌≤◌, Bool, true, false, cond, leb, List, [], ◌∷◌, ◌++◌, is_ok, Ok, Err, Result, nat_le, refl}
+use Rattle.std.specs.Prelude.{◌≡◌, ℕ, ◌+◌, ◌≤◌, Bool, true, false, cond, List, [], ◌∷◌, ◌++◌, is_ok, Ok, Err, Result, refl}
 use Rattle.std.proofs.Common.{sym, ap, subst, ◌∙◌, append_assoc, append-nil, arith}
-use Rattle.std.proofs.lemmas.Bool.{lt-leb, le-leb, false≢true}
-use Rattle.std.proofs.lemmas.Bool.Decides.{nat_tests}
+use Rattle.std.proofs.lemmas.Bool.{false≢true}
 use Rattle.refusal.specs.Causes.{refusal_at}
 use Rattle.refusal.specs.declared.Cause.TheVariants.{BadFact}
 use Rattle.refusal.specs.declared.Refusal.{Refusal}
@@ -31,10 +30,10 @@ module _ (p i : ℕ) (was now then : List ℕ) (m n k : ℕ) (all xs rest : List
   parts : (recordable x ≡ true) × (sound_from (i + 1) rest ≡ Ok tt)
   parts = sound_parts (recordable x) (sound_from (i + 1) rest) (refusal_at BadFact i) here.sound
 
-  pub left_first : (recordable x ≡ true) × (n + fact_cost x.count ≤ m + costs fact_cost all)
+  pub left_first : (recordable x ≡ true) × (n + fact_cost x.values.count ≤ m + costs fact_cost all)
   left_first = (parts.0, omega (arith, here.len))
 
-  pub left_next : Puts width now then (written p x ∷ []) → k ≡ n + fact_cost x.count → Left p (i + 1) was then m k all rest
+  pub left_next : Puts width now then (written p x ∷ []) → k ≡ n + fact_cost x.values.count → Left p (i + 1) was then m k all rest
   left_next e z = record {
     sound = parts.1;
     bytes = ap (λ (b : List ℕ). b ++ encode width (all_written p rest)) e.bytes ∙ append_assoc now (encode width (written p x ∷ [])) (encode width (all_written p rest))
@@ -49,14 +48,3 @@ pub left_done : (p i : ℕ) (was now : List ℕ) (m n : ℕ) (all rest : List Fa
 left_done p i was now m n all rest e l =
     let d = subst (λ (r : List Fact). Left p i was now m n all r) e l in
     (record { bytes = sym (append-nil now) ∙ d.bytes; whole = d.whole; items = sym (append-nil (items_of width now)) ∙ d.items }, omega (arith, d.len))
-
--- whether facts fit, by what is left
-module _ (xs rest : List Fact) (x : Fact) (left size : ℕ) (b : Bool) (e : xs ≡ x ∷ rest) (s : size ≡ fact_cost x.count) (h : leb (costs fact_cost xs) left ≡ b) where
-  pub fit_not : left < size → false ≡ b
-  fit_not l = sym (lt-leb (costs fact_cost xs) left (omega (arith, ap (costs fact_cost) e))) ∙ h
-
-  pub fit_next : size ≤ left → nat_le (costs fact_cost rest) (left - size) ≡ b
-  fit_next l = grind (arith, nat_tests, ap (costs fact_cost) e)
-
-pub fit_done : (xs : List Fact) (left : ℕ) (b : Bool) → xs ≡ [] → nat_le (costs fact_cost xs) left ≡ b → true ≡ b
-fit_done xs left b e h = sym (le-leb (costs fact_cost xs) left (omega (arith, ap (costs fact_cost) e))) ∙ h

@@ -1,8 +1,7 @@
-use Rattle.std.specs.Prelude.{◌≡◌, ℕ, zero, suc, ◌+◌, ◌-◌, ◌*◌, ◌/◌, ◌%◌, ◌^◌, ◌<◌, ◌≤◌, List, [], ◌∷◌, ◌++◌, length, drop, slice_index_or, refl}
+use Rattle.std.specs.Prelude.{◌≡◌, ℕ, zero, suc, ◌+◌, ◌*◌, ◌/◌, ◌^◌, ◌<◌, ◌≤◌, List, [], ◌∷◌, ◌++◌, length, drop, refl}
 use Rattle.std.proofs.Common.{ap, ◌∙◌, append_assoc, arith, pow-suc, mul-suc, length-append, length-drop}
-use Rattle.std.proofs.Math.Nat.{pow-le-pow_right}
 use Rattle.std.specs.List.{flat_map, AllByRecursion}
-use Rattle.std.proofs.lemmas.List.{drop_at, drop-append-le, drop_more}
+use Rattle.std.proofs.lemmas.List.{drop_at, drop-append-le}
 use Rattle.packed.specs.Format.{le, num, nums}
 
 pub length_le : (w n : ℕ) → length (le w n) ≡ w
@@ -41,24 +40,6 @@ nums_front W (suc k) xs ys h =
     let a : W ≤ length xs = omega (arith, mul-suc W k) in
     let l : W * k ≤ length (drop W xs) = omega (arith, mul-suc W k, length-drop W xs) in
     rw (num_front W xs ys a, drop-append-le W xs ys a) (ap (λ (t : List ℕ). num W xs ∷ t) (nums_front W k (drop W xs) ys l))
-
--- one more byte of a number
-pub le_next : (w i n : ℕ) → i < w → le (w - i) n ≡ n % 256 ∷ le (w - (i + 1)) (n / 256)
-unfolding le
-le_next w i n h = let e : w - i ≡ suc (w - (i + 1)) = omega arith in rw e refl
-
--- one more byte of a number that is read from its high end
-pub num_prev : (bs : List ℕ) (at size k d : ℕ) → k < size → at + size ≤ length bs
-    → num (size - k) (drop (at + k) bs) ≡ slice_index_or bs (at + k) d + 256 * num (size - (k + 1)) (drop (at + (k + 1)) bs)
-unfolding num
-num_prev bs at size k d h l =
-    let e : size - k ≡ suc (size - (k + 1)) = omega arith in
-    let a : at + k < length bs = omega arith in
-    let f : at + (k + 1) ≡ at + k + 1 = omega arith in
-    rw (e, drop_more bs (at + k) d a, f) refl
-
-pub pow_seven : (m : ℕ) → m ≤ 7 → 256 ^ m ≤ 256 ^ 7
-pow_seven m h = pow-le-pow_right (omega arith) h
 
 pub length_nums : (W k : ℕ) (bs : List ℕ) → length (nums W k bs) ≡ k
 unfolding nums

@@ -2,14 +2,14 @@
 use Rattle.std.specs.Prelude.{◌≡◌, ℕ, zero, suc, ◌+◌, ◌*◌, ◌<◌, ◌≤◌, Bool, true, false, ◌&&◌, ◌||◌, List, [], ◌∷◌, ◌++◌, length, Ok, ◌==◌, nat_lt, refl}
 use Rattle.std.proofs.Common.{sym, ap, subst, ◌∙◌, append-nil, inl, inr, arith, length-append}
 use Rattle.std.proofs.Math.Bool.{or_assoc}
-use Rattle.std.proofs.lemmas.Bool.{and_parts, and_from, and_right, eq-eqb, ne_eqb, ltb-true, lt-ltb, le-ltb, lt-leb, cases_Bool, false≢true}
+use Rattle.std.proofs.lemmas.Bool.{and_parts, and_from, and_right, eq-eqb, ne_eqb, ltb-true, lt-ltb, cases_Bool, false≢true}
 use Rattle.refusal.specs.Causes.{refusal_at}
 use Rattle.refusal.specs.declared.Cause.TheVariants.{BadFact}
 use Rattle.facts.specs.declared.Fact.{Fact}
 use Rattle.facts.specs.Tuples.{arguments, same, is_fact, among, recordable}
 use Rattle.facts.proofs.Orders.{same_is}
 use Rattle.facts.proofs.Tuples.{three_taken}
-use Rattle.journal.specs.Trace.{sound_from, Added, Trace, commit_answer, late_answer, shown, costs, rising}
+use Rattle.journal.specs.Trace.{sound_from, Added, rising}
 use Rattle.packed.specs.declared.packed.Packed.{Packed}
 use Rattle.packed.specs.Format.{Item, mark, fact, encode, headed, more, items, whole, items_of, Whole, Puts}
 use Rattle.packed.specs.Journal.{used}
@@ -73,7 +73,7 @@ same_long ws vs = elim (cases_Bool (same ws vs)) [
 
 is_written : (x : Fact) (q : ℕ) (vs : List ℕ) → recordable x ≡ true → (x.predicate == q && same (arguments x) vs) ≡ is_fact q vs x
 is_written x q vs h =
-    let n : length (arguments x) ≡ x.count = three_taken x.count x.values (ltb-true x.count 4 (and_parts (nat_lt x.predicate 32) (nat_lt x.count 4) h).1) in
+    let n : length (arguments x) ≡ x.values.count = three_taken x.values.count x.values.first (ltb-true x.values.count 4 (and_parts (nat_lt x.predicate 32) (nat_lt x.values.count 4) h).1) in
     ap (λ (b : Bool). (x.predicate == q) && b) (same_long (arguments x) vs ∙ ap (λ (k : ℕ). (k == length vs) && same (arguments x) vs) n)
 
 spread : (t b c d : Bool) → d ≡ (t && c) → ((t && b) || d) ≡ (t && (b || c))
@@ -118,7 +118,7 @@ pub record Kept (bs : List ℕ) (n next : ℕ) : Type 0 where
   pub rising : rising 0 (stamps (items_of width bs)) next ≡ true
 
 pub kept : (j : Packed) → Kept (used j) j.shown j.next
-kept j = record { whole = j.whole; encoded = j.encoded; counted = j.counted; following = j.following; placed = j.placed; rising = j.rising }
+kept j = record { whole = j.items.whole; encoded = j.items.encoded; counted = j.counted; following = j.following; placed = j.placed; rising = j.rising }
 
 pub kept_empty : (bs : List ℕ) → bs ≡ [] → Kept bs 0 0
 unfolding whole items
@@ -170,9 +170,3 @@ module _ (was now : List ℕ) (n next p : ℕ) (x : Fact) (old : Kept was n next
     holds = λ k q vs. ap (λ (l : List Item). held l k q vs) puts.items ∙ held_append (items_of width was) (written p x ∷ []) k q vs
         ∙ ap (λ (b : Bool). held (items_of width was) k q vs || b) (held_written p 0 k q vs (x ∷ []) (rw sound refl));
   }
-
-pub commit_ok : (t : Trace) (s : ℕ) (fs : List Fact) → sound_from 0 fs ≡ Ok tt → t.next ≤ s → t.mark + costs t.fact fs ≤ t.free → Ok tt ≡ commit_answer t s fs
-commit_ok t s fs a b c = rw (a, le-ltb s t.next b, le-ltb t.free (t.mark + costs t.fact fs) c) refl
-
-pub late_ok : (t : Trace) (p : ℕ) (x : Fact) → p < shown t → recordable x ≡ true → t.fact x.count ≤ t.free → Ok tt ≡ late_answer t p x
-late_ok t p x a b c = rw (lt-leb (shown t) p a, b, le-ltb t.free (t.fact x.count) c) refl

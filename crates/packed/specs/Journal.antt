@@ -1,5 +1,5 @@
 -- What a packed journal means, and what its calls do to its bytes.
-use Rattle.std.specs.Prelude.{◌≡◌, ℕ, true, List, length, is_ok, Some, vec_items, Result}
+use Rattle.std.specs.Prelude.{◌≡◌, ℕ, true, List, length, is_ok, Some, Result}
 use Rattle.refusal.specs.declared.Refusal.{Refusal}
 use Rattle.facts.specs.Facts.{Facts}
 use Rattle.journal.specs.Trace.{Trace}
@@ -9,7 +9,11 @@ use Rattle.packed.specs.Meaning.{width, stamps, next_from, bytes_facts, bytes_tr
 
 -- the used bytes
 abbrev pub used : Packed → List ℕ
-used j = vec_items j.bytes
+used j = j.items.bytes.items
+
+-- the most bytes that it may use
+abbrev pub limit : Packed → ℕ
+limit j = j.items.bytes.limit
 
 -- its facts are those of its bytes
 abbrev pub facts_of : Packed → Facts
@@ -17,7 +21,7 @@ facts_of j = bytes_facts (used j)
 
 -- its trace is that of its bytes, within its limit
 abbrev pub trace_of : Packed → Trace
-trace_of j = bytes_trace j.limit (used j)
+trace_of j = bytes_trace (limit j) (used j)
 
 -- the used bytes are the encoding of their items, of which as many are marks as positions are shown, the last of them just
 -- below the least next stamp

@@ -1,14 +1,14 @@
 -- What a journal's bytes mean: its facts and its trace.
-use Rattle.std.specs.Prelude.{ℕ, ◌+◌, ◌-◌, ◌*◌, Bool, true, false, cond, ◌&&◌, ◌||◌, List, [], ◌∷◌, length, Option, ◌==◌, nat_lt}
+use Rattle.std.specs.Prelude.{ℕ, ◌+◌, ◌-◌, ◌*◌, Bool, true, false, cond, ◌&&◌, ◌||◌, List, [], ◌∷◌, length, map, Some, None, Option, ◌≡◌, ◌==◌, nat_lt}
 use Rattle.facts.specs.declared.Fact.{Fact}
-use Rattle.facts.specs.declared.Query.{Query}
 use Rattle.facts.specs.Facts.{Facts}
-use Rattle.facts.specs.Scan.{better}
 use Rattle.facts.specs.Tuples.{arguments, padded, same}
+use Rattle.reserved.specs.Room.{Room}
+use Rattle.table.specs.declared.Arguments.{Arguments}
 use Rattle.journal.specs.Trace.{Trace, own_needs}
 use Rattle.packed.specs.declared.reading.Entry.{Entry}
 use Rattle.packed.specs.declared.reading.Entry.TheVariants.{Mark, Noted}
-use Rattle.packed.specs.Format.{Item, mark, fact, items_of}
+use Rattle.packed.specs.Format.{Item, mark, fact, items_of, Puts}
 
 -- the bytes of a value: 4 while a value is a u32
 abbrev pub width : ℕ
@@ -27,9 +27,13 @@ abbrev pub all_written : ℕ → List Fact → List Item
 all_written p [] = []
 all_written p (x ∷ xs) = written p x ∷ all_written p xs
 
+-- values as they are read
+abbrev pub values_read : List ℕ → Arguments ℕ
+values_read vs = record { count = length vs; first = padded vs }
+
 -- a fact as it is read
 abbrev pub fact_read : ℕ → List ℕ → Fact
-fact_read q vs = record { predicate = q; count = length vs; values = padded vs }
+fact_read q vs = record { predicate = q; values = values_read vs }
 
 -- an item as it is read
 abbrev pub entry_of : Item → Entry
@@ -82,7 +86,22 @@ facts_at p [] = []
 facts_at p (mark s ∷ xs) = facts_at p xs
 facts_at p (fact r n vs ∷ xs) = cond (p == n) (fact_read r vs ∷ facts_at p xs) (facts_at p xs)
 
--- one step of a scan for the least tuple at a position
-abbrev pub nearest : ℕ → Query → Option (List ℕ) → Option (List ℕ) → Entry → Option (List ℕ)
-nearest p q a best (Mark s) = best
-nearest p q a best (Noted n x) = cond (p == n) (better q a best x) best
+-- the items of bytes as they are read
+abbrev pub entries_of : List ℕ → List Entry
+entries_of bs = map entry_of (items_of width bs)
+
+-- the stamp of a mark
+abbrev pub stamp_in : Entry → Option ℕ
+stamp_in (Mark s) = Some s
+stamp_in (Noted p x) = None
+
+-- a fact that is at the position p
+abbrev pub fact_in : ℕ → Entry → Option Fact
+fact_in p (Mark s) = None
+fact_in p (Noted n x) = cond (p == n) (Some x) None
+
+-- these items, of n bytes, were put behind those that the reserved bytes write
+pub record Put (was now : Room ℕ) (xs : List Item) (n : ℕ) : Type 0 where
+  pub puts : Puts width was.items now.items xs
+  pub len : length now.items ≡ length was.items + n
+  pub limit : now.limit ≡ was.limit

@@ -1,9 +1,10 @@
 //! How a packed journal is made, and its bytes.
 ghost use Rattle.std.specs.Prelude.{◌≡◌, min, [], IfOk};
 ghost use Rattle.packed.specs.Format.{RoundTrip, Canonical};
-ghost use Rattle.packed.specs.Journal.{used, Stands};
+ghost use Rattle.packed.specs.Journal.{used, limit, Stands};
 
 use crate::packed::Packed;
+use crate::writing::Items;
 use std::alloc::{AllocError, Global};
 
 /// The most bytes of a journal. A position then fits in two bytes, since each takes a mark of five.
@@ -12,15 +13,13 @@ const LIMIT: usize = 65_536;
 impl Packed {
     /// An empty journal. All its memory is reserved here, and no later call allocates.
     pub fn new(heap: Global, units: usize) -> Result<Packed, AllocError>
-        ensures { IfOk result (λ j. (used j ≡ []) × (j.limit ≡ min units 65536)) }
+        ensures { IfOk result (λ j. (used j ≡ []) × (limit j ≡ min units 65536)) }
     {
-        let limit = units.min(LIMIT);
-        let bytes = Vec::with_capacity(heap, limit)?;
+        let items = Items::new(heap, units.min(LIMIT))?;
         Ok(Packed {
-            bytes,
+            items,
             shown: 0,
             next: 0,
-            limit,
         })
     }
 
@@ -29,7 +28,7 @@ impl Packed {
         ensures bytes { result.now ≡ used self.now }
         ensures stands { Stands self.now }
     {
-        self.bytes.as_slice()
+        self.items.as_bytes()
     }
 }
 

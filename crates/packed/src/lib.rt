@@ -3,7 +3,6 @@
 
 mod appending;
 mod creation;
-mod numbers;
 mod packed;
 mod reading;
 mod sizes;

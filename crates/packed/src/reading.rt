@@ -1,16 +1,17 @@
 //! Marks and facts, read from bytes.
-ghost use Rattle.std.specs.Prelude.{◌≡◌, ◌+◌, ◌*◌, ◌<◌, ◌≤◌, true, length, drop, None, fold, slice_index};
+ghost use Rattle.std.specs.Prelude.{◌≡◌, ◌*◌, ◌/◌, ◌≤◌, true, length, slice_index, map, Some, None, fold};
 ghost use Rattle.std.specs.List.{slice_get};
+ghost use Rattle.std.specs.Int.{from_le_bytes, w32};
+ghost use Rattle.std.specs.Iterator.{YieldsFirst, item_count};
 ghost use Rattle.facts.specs.Scan.{better};
-ghost use Rattle.facts.specs.Tuples.{padded};
 ghost use Rattle.packed.specs.Format.{nums, headed, more, item_at, items_of, Whole};
-ghost use Rattle.packed.specs.Meaning.{width, entry_of, stamps, facts_at, nearest};
+ghost use Rattle.packed.specs.Meaning.{width, entry_of, values_read, stamps, facts_at, entries_of, stamp_in, fact_in};
 
-use crate::numbers::number_at;
-use crate::sizes::{HEAD, WIDTH, size_of};
-use facts::{Fact, Query, Tuple, nearer};
+use crate::sizes::{HEAD, WIDTH, body_size};
+use crate::writing::Items;
+use facts::{Fact, Sought, Tuple};
 use journal::Stamp;
-use table::Value;
+use table::{Arguments, Value};
 
 /// An item of the bytes: the mark of a stamp, or a fact at a position.
 #[derive(Clone, Copy)]
@@ -19,101 +20,116 @@ pub(crate) enum Entry {
     Noted(u16, Fact),
 }
 
-/// The first `count` values at `at`, and 0 behind them.
-fn values_at(bytes: &[u8], at: usize, count: u8) -> Tuple
-    requires few { count ≤ 3 }
-    requires within { at + width * count ≤ length bytes.now }
-    ensures { result ≡ padded (nums width count (drop at bytes.now)) }
-{
-    let mut values = [0; 3];
-    for k in 0..usize::from(count) {
-        values[k] = number_at(bytes, at + WIDTH * k, WIDTH) as Value;
+impl Entry {
+    /// The stamp of a mark.
+    fn stamp(self) -> Option<Stamp>
+        ensures { result ≡ stamp_in self }
+    {
+        match self {
+            Entry::Mark(stamp) => Some(stamp),
+            Entry::Noted(..) => None,
+        }
     }
-    values
+
+    /// A fact, where it is at the position.
+    fn fact_at(self, position: usize) -> Option<Fact>
+        ensures { result ≡ fact_in position self }
+    {
+        match self {
+            Entry::Noted(at, fact) if position == usize::from(at) => Some(fact),
+            _ => None,
+        }
+    }
 }
 
-/// The item at `at`.
-pub(crate) fn entry_at(bytes: &[u8], at: usize) -> Entry
-    requires here { at < length bytes.now }
-    requires within { at + 1 + more width (slice_index bytes.now at) ≤ length bytes.now }
-    requires head { headed (slice_index bytes.now at) ≡ true }
-    ensures { result ≡ entry_of (item_at width (slice_index bytes.now at) (drop (at + 1) bytes.now)) }
+/// The items that bytes write, read one after the other.
+#[derive(Drop)]
+pub(crate) struct Entries<'a> {
+    bytes: &'a [u8],
+    ghost whole: { Whole width bytes.now },
+}
+
+impl<'a> Entries<'a> {
+    pub(crate) fn of(bytes: &'a [u8]) -> Entries<'a>
+        requires { Whole width bytes.now }
+        ensures { result.bytes.now ≡ bytes.now }
+    {
+        Entries { bytes }
+    }
+}
+
+impl Iterator for Entries<'_> {
+    type Item = Entry;
+
+    ghost next_gives = { YieldsFirst (λ e. entries_of e.bytes.now) };
+
+    ghost remaining = { item_count (λ e. entries_of e.bytes.now) };
+
+    fn next(&mut self) -> Option<Entry> {
+        let (head, rest) = self.bytes.split_first()?;
+        let (body, rest) = rest.split_at(body_size(*head));
+        let entry = read(*head, body);
+        self.bytes = rest;
+        Some(entry)
+    }
+}
+
+/// The item of a head and the bytes that follow it.
+fn read(head: u8, body: &[u8]) -> Entry
+    requires head { headed head ≡ true }
+    requires body { length body.now ≡ more width head }
+    ensures { result ≡ entry_of (item_at width head body.now) }
 {
-    let head = bytes[at];
     if head == HEAD {
-        Entry::Mark(number_at(bytes, at + 1, 4) as Stamp)
+        let (stamp, _) = body.split_first_chunk().unwrap();
+        Entry::Mark(Stamp::from_le_bytes(*stamp))
     } else {
-        let count = head / 32;
-        let position = number_at(bytes, at + 1, 2) as u16;
-        let values = values_at(bytes, at + 3, count);
-        Entry::Noted(
-            position,
-            Fact {
-                predicate: head % 32,
-                count,
-                values,
-            },
-        )
+        let (position, values) = body.split_first_chunk().unwrap();
+        let fact = Fact {
+            predicate: head % 32,
+            values: read_values(values),
+        };
+        Entry::Noted(u16::from_le_bytes(*position), fact)
     }
 }
 
-/// The best tuple so far, where a further item may be a fact at the position with a lesser one.
-fn next_best(
-    best: Option<Tuple>,
-    entry: &Entry,
-    position: usize,
-    query: &Query,
-    after: Option<Tuple>,
-) -> Option<Tuple>
-    ensures { result ≡ nearest position query.now after best entry.now }
+/// The values that these bytes write, of which there are at most three, and 0 behind them.
+fn read_values(bytes: &[u8]) -> Arguments<Value>
+    requires { length bytes.now ≤ 3 * width }
+    ensures { result ≡ values_read (nums width (length bytes.now / width) bytes.now) }
 {
-    match entry {
-        Entry::Mark(_) => best,
-        Entry::Noted(at, fact) => {
-            if position == usize::from(*at) {
-                nearer(best, fact, query, after)
-            } else {
-                best
-            }
-        }
+    let (words, _) = bytes.as_chunks::<WIDTH>();
+    Arguments {
+        count: words.len() as u8,
+        first: [value_at(words, 0), value_at(words, 1), value_at(words, 2)],
     }
 }
 
-/// The least tuple of a fact at the position that answers the query and is greater than the one before.
-pub(crate) fn least_at(
-    bytes: &[u8],
-    position: usize,
-    query: &Query,
-    after: Option<Tuple>,
-) -> Option<Tuple>
-    requires { Whole width bytes.now }
-    ensures { result ≡ fold (better query.now after) None (facts_at position (items_of width bytes.now)) }
+/// The value that stands at a place, or 0.
+fn value_at(words: &[[u8; WIDTH]], place: usize) -> Value
+    ensures { result ≡ slice_index (map (from_le_bytes w32) words.now) place }
 {
-    let mut best = None;
-    let mut at = 0;
-    while at < bytes.len() {
-        let entry = entry_at(bytes, at);
-        best = next_best(best, &entry, position, query, after);
-        at += size_of(bytes[at]);
-    }
-    best
+    words
+        .get(place)
+        .map_or(0, |word| Value::from_le_bytes(*word))
 }
 
-/// The stamp of the mark of a position, where there are as many.
-pub(crate) fn stamp_at(bytes: &[u8], position: usize) -> Option<Stamp>
-    requires { Whole width bytes.now }
-    ensures { result ≡ slice_get (stamps (items_of width bytes.now)) position }
-{
-    let mut at = 0;
-    let mut left = position;
-    while at < bytes.len() {
-        if let Entry::Mark(stamp) = entry_at(bytes, at) {
-            if left == 0 {
-                return Some(stamp);
-            }
-            left -= 1;
-        }
-        at += size_of(bytes[at]);
+impl Items {
+    /// The least tuple of a fact at the position that answers the query and is greater than the one before.
+    pub(crate) fn least_at(&self, position: usize, sought: &Sought) -> Option<Tuple>
+        ensures { result ≡ fold (better sought.now.query sought.now.after) None (facts_at position (items_of width self.now.bytes.items)) }
+    {
+        self.entries()
+            .filter_map(|entry| entry.fact_at(position))
+            .fold(None, |best, fact| sought.nearer(best, &fact))
     }
-    None
+
+    /// The stamp of the mark of a position, where there are as many.
+    pub(crate) fn stamp_at(&self, position: usize) -> Option<Stamp>
+        ensures { result ≡ slice_get (stamps (items_of width self.now.bytes.items)) position }
+    {
+        self.entries()
+            .filter_map(|entry| entry.stamp())
+            .nth(position)
+    }
 }

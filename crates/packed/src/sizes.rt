@@ -1,5 +1,5 @@
 //! The sizes of marks and facts, in bytes.
-ghost use Rattle.std.specs.Prelude.{◌≡◌, ◌+◌, nat_le};
+ghost use Rattle.std.specs.Prelude.{◌≡◌, min};
 ghost use Rattle.journal.specs.Trace.{costs};
 ghost use Rattle.packed.specs.Format.{more};
 ghost use Rattle.packed.specs.Meaning.{width, fact_cost};
@@ -22,28 +22,22 @@ pub(crate) fn fact_size(count: u8) -> usize
     3 + WIDTH * usize::from(count)
 }
 
-/// The bytes of an item with this head.
-pub(crate) fn size_of(head: u8) -> usize
-    ensures { result ≡ 1 + more width head }
+/// The bytes that follow the head of an item.
+pub(crate) fn body_size(head: u8) -> usize
+    ensures { result ≡ more width head }
 {
     if head == HEAD {
-        MARK
+        MARK - 1
     } else {
-        fact_size(head / 32)
+        fact_size(head / 32) - 1
     }
 }
 
-/// Whether the facts fit in the free bytes.
-pub(crate) fn fit(facts: &[Fact], free: usize) -> bool
-    ensures { result ≡ nat_le (costs fact_cost facts.now) free }
+/// The bytes of these facts, or the most that can be counted.
+pub(crate) fn facts_size(facts: &[Fact]) -> usize
+    ensures { result ≡ min (costs fact_cost facts.now) usize.MAX }
 {
-    let mut left = free;
-    for fact in facts {
-        let size = fact_size(fact.count);
-        if left < size {
-            return false;
-        }
-        left -= size;
-    }
-    true
+    facts.iter().fold(0usize, |size, fact| {
+        size.saturating_add(fact_size(fact.values.count))
+    })
 }

@@ -2,8 +2,7 @@
 ghost use Rattle.packed.specs.Journal.{facts_of};
 
 use crate::packed::Packed;
-use crate::reading::least_at;
-use facts::{FactSource, Query, Tuple, allow};
+use facts::{FactSource, Query, Sought, Tuple, allow};
 use journal::known_to_journals;
 use refusal::Refusal;
 use sets::SmallSet;
@@ -21,7 +20,11 @@ impl FactSource for Packed {
         query: &Query,
         after: Option<Tuple>,
     ) -> Result<Option<Tuple>, Refusal> {
-        allow(self.known(query.predicate, query.count), query)?;
-        Ok(least_at(self.bytes.as_slice(), position, query, after))
+        allow(self.known(query.predicate, query.given.count), query)?;
+        let sought = Sought {
+            query: *query,
+            after,
+        };
+        Ok(self.items.least_at(position, &sought))
     }
 }

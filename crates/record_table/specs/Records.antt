@@ -1,44 +1,36 @@
 -- What the records and the stamps of a table mean, and the order in which they stand.
-use Rattle.std.specs.Prelude.{ℕ, suc, ◌+◌, Bool, true, cond, ◌&&◌, List, [], ◌∷◌, ◌++◌, take, drop, ◌==◌, nat_le, nat_lt}
+use Rattle.std.specs.Prelude.{ℕ, ◌<◌, List, map, filter, All, insert, ◌==◌, nat_le}
+use Rattle.std.specs.List.{prefix_len}
+use Rattle.std.specs.List.Sorted.{IsNonDecreasingBy}
 use Rattle.facts.specs.declared.Fact.{Fact}
 use Rattle.facts.specs.Facts.{Facts}
 use Rattle.facts.specs.Tuples.{among}
 use Rattle.journal.specs.Trace.{Trace, own_needs}
 use Rattle.record_table.specs.declared.record.Record.{Record}
 
+-- a record of a fact at the position p
+abbrev pub record_at : ℕ → Fact → Record
+record_at p x = record { position = p; fact = x }
+
 -- records of these facts, all at the position p
 abbrev pub records_at : ℕ → List Fact → List Record
-records_at p [] = []
-records_at p (x ∷ xs) = record { position = p; fact = x } ∷ records_at p xs
-
--- the facts of these records
-abbrev pub facts_of : List Record → List Fact
-facts_of [] = []
-facts_of (r ∷ rs) = r.fact ∷ facts_of rs
+records_at p xs = map (record_at p) xs
 
 -- the facts of those records that are at the position p
 abbrev pub facts_at : ℕ → List Record → List Fact
-facts_at p [] = []
-facts_at p (r ∷ rs) = cond (p == r.position) (r.fact ∷ facts_at p rs) (facts_at p rs)
+facts_at p rs = map (λ r. r.fact) (filter (λ r. p == r.position) rs)
 
--- how many records lie before the position p, where the records are sorted
-abbrev pub count_before : ℕ → List Record → ℕ
-count_before p [] = 0
-count_before p (r ∷ rs) = cond (nat_lt r.position p) (suc (count_before p rs)) 0
-
--- the positions of the records don't fall, from `low` on
-abbrev pub sorted : ℕ → List Record → Bool
-sorted low [] = true
-sorted low (r ∷ rs) = nat_le low r.position && sorted r.position rs
+-- the positions of the records don't fall
+abbrev pub Sorted : List Record → Type 0
+Sorted rs = IsNonDecreasingBy (λ r. r.position) rs
 
 -- each record is at a position below `end`
-abbrev pub placed : List Record → ℕ → Bool
-placed [] end = true
-placed (r ∷ rs) end = nat_lt r.position end && placed rs end
+abbrev pub Placed : List Record → ℕ → Type 0
+Placed rs end = All (λ r. r.position < end) rs
 
 -- these records, with one more behind those at its position
 abbrev pub with_record : List Record → ℕ → Fact → List Record
-with_record rs p x = take (count_before (p + 1) rs) rs ++ (record { position = p; fact = x } ∷ drop (count_before (p + 1) rs) rs)
+with_record rs p x = insert rs (prefix_len (λ r. nat_le r.position p) rs) (record_at p x)
 
 -- a fact is true at a position where it is among the facts of the records there
 abbrev pub recorded : List Record → Facts

@@ -1,9 +1,13 @@
 //! Records, in rising order of their positions.
-ghost use Rattle.std.specs.Prelude.{◌≡◌, ◌+◌, ◌<◌, ◌≤◌, true, ◌++◌, length, None, vec_len, vec_capacity, fold};
+ghost use Rattle.std.specs.Prelude.{◌≡◌, ◌+◌, ◌<◌, ◌≤◌, ◌==◌, [], ◌++◌, length, map, filter, fold, None, IfOk};
 ghost use Rattle.facts.specs.Scan.{better};
-ghost use Rattle.record_table.specs.Records.{records_at, facts_of, facts_at, count_before, sorted, placed, with_record};
+ghost use Rattle.reserved.specs.Room.{room};
+ghost use Rattle.record_table.specs.Records.{Placed, records_at, with_record};
 
-use facts::{Fact, Query, Tuple, nearer};
+use facts::{Fact, Sought, Tuple};
+use reserved::Reserved;
+use std::alloc::{AllocError, Global};
+use std::marker::Model;
 
 /// A fact at a position.
 #[derive(Clone, Copy)]
@@ -12,71 +16,81 @@ pub(crate) struct Record {
     pub(crate) fact: Fact,
 }
 
-/// The index of the first record at a position, or where it would stand: how many records lie before the position.
-pub(crate) fn first_at(records: &[Record], position: usize) -> usize
-    requires { sorted 0 records.now ≡ true }
-    ensures { result ≡ count_before position records.now }
-{
-    let mut low = 0;
-    let mut high = records.len();
-    while low < high {
-        let middle = low + (high - low) / 2;
-        if records[middle].position < position {
-            low = middle + 1;
-        } else {
-            high = middle;
-        }
-    }
-    low
+/// The records of a table: no record stands behind one of a later position.
+#[derive(Drop)]
+pub(crate) struct Records {
+    records: Reserved<Record>,
 }
 
-/// The records at a position. No record is at a position from 65,536 on.
-pub(crate) fn all_at(records: &[Record], position: usize) -> &[Record]
-    requires sorted { sorted 0 records.now ≡ true }
-    requires placed { placed records.now 65536 ≡ true }
-    ensures { facts_of result.now ≡ facts_at position records.now }
-{
-    let from = first_at(records, position);
-    let to = first_at(records, position.saturating_add(1));
-    &records[from..to]
+impl Model for Records {
+    ghost use Rattle.record_table.specs.declared.record.Record.{Record};
+    ghost use Rattle.reserved.specs.Room.{Room};
+    ghost use Rattle.record_table.specs.Records.{Sorted};
+
+    ghost Value = { Room Record };
+
+    ghost view = { λ r. r.records };
+
+    ghost invariant = { λ r. Sorted r.records.items };
+}
+
+impl Records {
+    /// No records, with room for `limit` of them.
+    pub(crate) fn new(heap: Global, limit: usize) -> Result<Records, AllocError>
+        ensures { IfOk result (λ r. r ≡ room [] limit) }
+    {
+        let records = Reserved::new(heap, limit)?;
+        Ok(Records { records })
+    }
+
+    /// How many records there are.
+    pub(crate) fn len(&self) -> usize
+        ensures { result ≡ length self.now.items }
+    {
+        self.records.as_slice().len()
+    }
+
+    /// The records at a position.
+    pub(crate) fn at(&self, position: usize) -> &[Record]
+        ensures { result.now ≡ filter (λ r. position == r.position) self.now.items }
+    {
+        let records = self.records.as_slice();
+        let (_, from) = records.split_at(records.partition_point(|r| r.position < position));
+        let (here, _) = from.split_at(from.partition_point(|r| r.position <= position));
+        here
+    }
+
+    /// Adds records of these facts at the end, behind records of earlier positions.
+    pub(crate) fn append(&mut self, position: usize, facts: &[Fact])
+        requires later { Placed self.old.items position }
+        requires room { length self.old.items + length facts.now ≤ self.old.limit }
+        ensures { self.new ≡ room (self.old.items ++ records_at position facts.now) self.old.limit }
+    {
+        for fact in facts {
+            self.records.push(Record {
+                position,
+                fact: *fact,
+            });
+        }
+    }
+
+    /// Puts a record of this fact behind those at its position.
+    pub(crate) fn insert(&mut self, position: usize, fact: Fact)
+        requires { length self.old.items < self.old.limit }
+        ensures { self.new ≡ room (with_record self.old.items position fact) self.old.limit }
+    {
+        let records = self.records.as_slice();
+        let behind = records.partition_point(|r| r.position <= position);
+        self.records.insert(behind, Record { position, fact });
+    }
 }
 
 /// The least tuple of these records that answers the query and is greater than the one before.
-pub(crate) fn scan(records: &[Record], query: &Query, after: Option<Tuple>) -> Option<Tuple>
-    ensures { result ≡ fold (better query.now after) None (facts_of records.now) }
+pub(crate) fn scan(records: &[Record], sought: &Sought) -> Option<Tuple>
+    ensures { result ≡ fold (better sought.now.query sought.now.after) None (map (λ r. r.fact) records.now) }
 {
-    let mut best = None;
-    for record in records {
-        best = nearer(best, &record.fact, query, after);
-    }
-    best
-}
-
-/// Adds records of these facts at the end. Their room is reserved.
-pub(crate) fn append(records: &mut Vec<Record>, position: usize, facts: &[Fact])
-    requires { vec_len records.old + length facts.now ≤ vec_capacity records.old }
-    ensures items { records.new.items ≡ records.old.items ++ records_at position facts.now }
-    ensures len { vec_len records.new ≡ vec_len records.old + length facts.now }
-    ensures capacity { vec_capacity records.new ≡ vec_capacity records.old }
-{
-    for fact in facts {
-        records.push_reserved(Record {
-            position,
-            fact: *fact,
-        });
-    }
-}
-
-/// Puts a record of this fact behind those at its position. Its room is reserved.
-pub(crate) fn insert(records: &mut Vec<Record>, position: usize, fact: Fact)
-    requires sorted { sorted 0 records.old.items ≡ true }
-    requires shown { position < 65536 }
-    requires room { vec_len records.old < vec_capacity records.old }
-    ensures items { records.new.items ≡ with_record records.old.items position fact }
-    ensures len { vec_len records.new ≡ vec_len records.old + 1 }
-    ensures capacity { vec_capacity records.new ≡ vec_capacity records.old }
-{
-    let behind = first_at(records.as_slice(), position + 1);
-    // The reserved room is not used up, so this neither allocates nor fails.
-    records.insert(behind, Record { position, fact }).unwrap();
+    records
+        .iter()
+        .map(|record| record.fact)
+        .fold(None, |best, fact| sought.nearer(best, &fact))
 }

@@ -1,15 +1,16 @@
 //! The journal of records.
-ghost use Rattle.std.specs.Prelude.{◌≡◌, ◌+◌, ◌-◌, ◌^◌, ◌≤◌, min, true, [], IfOk, vec_len, vec_capacity, refl};
-ghost use Rattle.journal.specs.Trace.{rising};
-ghost use Rattle.record_table.specs.Records.{placed, sorted, recorded, traced};
+ghost use Rattle.std.specs.Prelude.{◌≡◌, ◌+◌, ◌-◌, ◌^◌, ◌≤◌, length, min, true, [], IfOk, refl};
+ghost use Rattle.journal.specs.Trace.{rising, standing};
+ghost use Rattle.record_table.specs.Records.{Placed, recorded, traced};
 ghost use Rattle.std.proofs.Common.{arith, rules};
 ghost use Rattle.journal.proofs.Stamps.{rising_at, rising_below};
 ghost use Rattle.record_table.specs.Meaning.{none_unshown};
 
-use crate::record::{Record, all_at, append, insert, scan};
-use facts::{Fact, FactSource, Query, Tuple, allow};
-use journal::{Journal, Stamp, check_facts, known_to_journals};
-use refusal::{Cause, Refusal};
+use crate::record::{Records, scan};
+use facts::{Fact, FactSource, Query, Sought, Tuple, allow};
+use journal::{Journal, Stamp, Standing, known_to_journals};
+use refusal::Refusal;
+use reserved::Reserved;
 use sets::SmallSet;
 use std::alloc::{AllocError, Global};
 
@@ -17,16 +18,15 @@ use std::alloc::{AllocError, Global};
 /// All memory is reserved when it is made.
 #[derive(Drop)]
 pub struct RecordTable {
-    stamps: Vec<Stamp>,
-    records: Vec<Record>,
+    stamps: Reserved<Stamp>,
+    records: Records,
     next: u64,
     limit: usize,
-    ghost room: { vec_len stamps + vec_len records ≤ limit },
+    ghost room: { length stamps.items + length records.items ≤ limit },
     ghost bounded: { limit ≤ 65536 },
-    ghost stamps_reserved: { limit ≤ vec_capacity stamps },
-    ghost records_reserved: { limit ≤ vec_capacity records },
-    ghost placed: { placed records.items (vec_len stamps) ≡ true },
-    ghost sorted: { sorted 0 records.items ≡ true },
+    ghost stamps_reserved: { limit ≤ stamps.limit },
+    ghost records_reserved: { limit ≤ records.limit },
+    ghost placed: { Placed records.items (length stamps.items) },
     ghost rising: { rising 0 stamps.items next ≡ true },
     ghost last: { next ≤ 2 ^ 32 },
 }
@@ -37,14 +37,26 @@ impl RecordTable {
         ensures { IfOk result (λ t. (t.stamps.items ≡ []) × (t.records.items ≡ []) × (t.next ≡ 0) × (t.limit ≡ min units 65536)) }
     {
         let limit = units.min(65_536);
-        let stamps = Vec::with_capacity(heap, limit)?;
-        let records = Vec::with_capacity(heap, limit)?;
+        let stamps = Reserved::new(heap, limit)?;
+        let records = Records::new(heap, limit)?;
         Ok(RecordTable {
             stamps,
             records,
             next: 0,
             limit,
         })
+    }
+
+    // In each store, and no method of `Journal` with a body: such a method, called by the store's own `commit`, leads back to
+    // it and gets no proof.
+    fn standing(&self) -> Standing
+        ensures { result ≡ standing (⟦<RecordTable as Journal>⟧.trace self.now) }
+    {
+        Standing {
+            shown: self.shown(),
+            next: self.next,
+            free: self.free(),
+        }
     }
 }
 
@@ -61,13 +73,17 @@ impl FactSource for RecordTable {
         query: &Query,
         after: Option<Tuple>,
     ) -> Result<Option<Tuple>, Refusal> {
-        allow(self.known(query.predicate, query.count), query)?;
-        Ok(scan(all_at(self.records.as_slice(), position), query, after))
+        allow(self.known(query.predicate, query.given.count), query)?;
+        let sought = Sought {
+            query: *query,
+            after,
+        };
+        Ok(scan(self.records.at(position), &sought))
     }
 }
 
 impl Journal for RecordTable {
-    ghost trace = { λ t. traced t.stamps.items t.next (t.limit - (vec_len t.stamps + vec_len t.records)) };
+    ghost trace = { λ t. traced t.stamps.items t.next (t.limit - (length t.stamps.items + length t.records.items)) };
 
     ghost keeps = { λ _ _. Unit {0} };
 
@@ -77,7 +93,7 @@ impl Journal for RecordTable {
           below = λ p l. rising_below 0 j.next j.stamps.items p j.rising l;
           last = j.last;
           few = Prim.search rules;
-          unshown = λ p q vs o h. none_unshown j.records.items (vec_len j.stamps) p q vs j.placed (omega (arith, j.stamps.ok.0));
+          unshown = λ p q vs o h. none_unshown j.records.items (length j.stamps.items) p q vs j.placed h;
           needs = λ q n _. refl;
         } };
 
@@ -86,7 +102,7 @@ impl Journal for RecordTable {
     ghost along = { first_of (Prim.search rules, Prim.grind (arith, Self.row.coded.inj)) };
 
     fn shown(&self) -> usize {
-        self.stamps.len()
+        self.stamps.as_slice().len()
     }
 
     fn stamp(&self, position: usize) -> Option<Stamp> {
@@ -98,36 +114,21 @@ impl Journal for RecordTable {
     }
 
     fn free(&self) -> usize {
-        self.limit - (self.stamps.len() + self.records.len())
+        self.limit - (self.shown() + self.records.len())
     }
 
     fn commit(&mut self, stamp: Stamp, facts: &[Fact]) -> Result<(), Refusal> {
-        check_facts(facts)?;
+        self.standing().allow_commit(stamp, facts, 1 + facts.len())?;
         let position = self.shown();
-        if u64::from(stamp) < self.next {
-            return Err(Cause::StampTooLow.at(position));
-        }
-        if self.free() <= facts.len() {
-            return Err(Cause::NoRoom.at(position));
-        }
+        self.records.append(position, facts);
+        self.stamps.push(stamp);
         self.next = u64::from(stamp) + 1;
-        self.stamps.push_reserved(stamp);
-        append(&mut self.records, position, facts);
         Ok(())
     }
 
     fn late(&mut self, position: usize, fact: Fact) -> Result<(), Refusal> {
-        let shown = self.shown();
-        if position >= shown {
-            return Err(Cause::NotShown.at(position));
-        }
-        if !fact.is_recordable() {
-            return Err(Cause::BadFact.at(0));
-        }
-        if self.free() == 0 {
-            return Err(Cause::NoRoom.at(shown));
-        }
-        insert(&mut self.records, position, fact);
+        self.standing().allow_late(position, &fact, 1)?;
+        self.records.insert(position, fact);
         Ok(())
     }
 }

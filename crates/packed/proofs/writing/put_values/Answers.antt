@@ -1,18 +1,23 @@
-use Rattle.std.proofs.Common.{ℕ, ◌^◌, ◌<◌, List, ◌++◌, vec_items, ap, ◌∙◌, arith, take_all, rules}
-use Rattle.std.proofs.ByRecursion.{All-from_get_or}
+use Rattle.std.proofs.Common.{◌≡◌, ◌++◌, length, List, ℕ, ap, ◌∙◌, arith, take_all, rules, length-append}
 use Rattle.std.specs.List.{flat_map}
+use Rattle.reserved.specs.Room.{room}
 use Rattle.packed.specs.Format.{le}
 use Rattle.packed.specs.Meaning.{width}
 use Rattle.packed.proofs.Steps.{values_more}
 use Rattle.packed.proofs.writing.put_values.Goals as goal
 
-pub loop-v-preserved : goal.loop-v-preserved
-loop-v-preserved c = (values_more width c.loop-v.v-index _ (vec_items c.args.bytes.now) (vec_items c.loop-v.bytes) _ c.args.values.now c.loop-v-test.true (search rules) c.loop-v.invariant.0 c.put_number.ensures.items, search rules, search rules)
+pub loop-value-preserved : goal.loop-value-preserved
+loop-value-preserved c =
+    let now : c.extend_from_slice.new.self.items ≡ c.loop-value.bytes.items ++ c.to_le_bytes.result = ap (λ r. r.items) c.extend_from_slice.ensures in
+    let four : length c.to_le_bytes.result ≡ 4 = ap (λ (l : List ℕ). length l) c.to_le_bytes.ensures in
+    record {
+      items = values_more c.loop-value.value-index _ c.args.bytes.now.items c.loop-value.bytes.items _ c.args.values.now _ c.loop-value-test.true (search rules) c.loop-value.invariant.items c.to_le_bytes.ensures now;
+      len = omega (arith, ap (λ (l : List ℕ). length l) now, length-append c.loop-value.bytes.items c.to_le_bytes.result, four);
+      limit = ap (λ r. r.limit) c.extend_from_slice.ensures ∙ c.loop-value.invariant.limit;
+    }
 
-pub returns : goal.returns
-returns c = record {
-  fits = All-from_get_or (λ v. v < 256 ^ width) _ 0 (λ i _. (c.type_inv.values i).fits);
-  items = c.loop-v.invariant.0 ∙ ap (λ (l : List ℕ). vec_items c.args.bytes.now ++ flat_map (le width) l) (take_all _ _ c.loop-v-test.false);
-  len = omega arith;
-  capacity = c.loop-v.invariant.2;
-}
+pub returns-clause-bytes : goal.returns-clause-bytes
+returns-clause-bytes c =
+    let b = c.loop-value.bytes in
+    let items = c.loop-value.invariant.items ∙ ap (λ (l : List ℕ). c.args.bytes.now.items ++ flat_map (le width) l) (take_all _ _ c.loop-value-test.false) in
+    ap (λ l. room l b.limit) items ∙ ap (room (c.args.bytes.now.items ++ flat_map (le width) c.args.values.now)) c.loop-value.invariant.limit

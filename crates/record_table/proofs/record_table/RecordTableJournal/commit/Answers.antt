@@ -1,64 +1,61 @@
-use Rattle.std.proofs.Common.{◌≡◌, ℕ, ◌+◌, ◌-◌, true, List, [], ◌∷◌, ◌++◌, length, Err, vec_items, vec_len, sym, refl, ap, ◌∙◌, subst, arith, rules}
-use Rattle.record_table.specs.declared.record.Record.{Record}
-use Rattle.record_table.specs.Records.{records_at, placed, sorted}
-use Rattle.record_table.proofs.Sorted.{sorted_append, placed_append}
-use Rattle.journal.specs.Trace.{rising}
+use Rattle.std.proofs.Common.{◌≡◌, ◌≤◌, ◌-◌, ◌+◌, length, Ok, [], ◌∷◌, sym, refl, ap, ◌∙◌, arith, rules, length-append}
+use Rattle.journal.specs.Trace.{allowed_commit, standing}
 use Rattle.journal.proofs.Stamps.{rising_more}
-use Rattle.record_table.specs.Meaning.{commit_taken, commit_full, costs_length, added_behind}
+use Rattle.record_table.specs.Records.{traced}
+use Rattle.record_table.proofs.Sorted.{placed_append, length_behind}
+use Rattle.record_table.specs.Meaning.{costs_length, added_behind}
 use Rattle.record_table.proofs.record_table.RecordTableJournal.commit.Goals as goal
 
-pub returns-then-free-facts : goal.returns-then-free-facts
-returns-then-free-facts c =
+pub returns-in_err-allow_commit-clause-does : goal.returns-in_err-allow_commit-clause-does
+returns-in_err-allow_commit-clause-does c =
     let t = c.args.self.now in
+    let fs = c.args.facts.now in
+    let refused : c.from_residual.result ≡ c.allow_commit.result = search rules in
     record {
-      does = record {
-        answer = ap Err (c.at-then-free-facts.ensures ∙ search rules)
-            ∙ commit_full (vec_items t.stamps) t.next (t.limit - (vec_len t.stamps + vec_len t.records)) c.args.stamp c.args.facts.now (search rules) (search rules) (search rules);
-        taken = search rules;
-        refused = λ _. refl;
-      };
-      keeps = tt;
+      answer = refused ∙ c.allow_commit.ensures ∙ ap (λ w. allowed_commit w c.args.stamp fs (1 + length fs)) c.standing.ensures
+          ∙ ap (λ n. allowed_commit (standing (traced t.stamps.items t.next (t.limit - (length t.stamps.items + length t.records.items)))) c.args.stamp fs (1 + n)) (sym (costs_length fs));
+      taken = search rules;
+      refused = λ _. refl;
     }
 
 pub invariant_of-self : goal.invariant_of-self
 invariant_of-self c =
     let t = c.args.self.now in
-    let rs = vec_items t.records in
-    let k = c.shown-position.result in
     let fs = c.args.facts.now in
-    let at : k ≡ vec_len t.stamps = search rules in record {
-      room = search rules;
-      bounded = search rules;
+    let k = c.shown-position.result in
+    let fits : 1 + length fs ≤ t.limit - (length t.stamps.items + length t.records.items) = search rules in
+    let due : t.next ≤ c.args.stamp = search rules in
+    let here : k ≡ length t.stamps.items = c.shown-position.ensures in
+    let more = ap (λ v. length v.items) c.append.ensures ∙ length_behind k t.records.items fs in
+    let stamped = ap (λ v. length v.items) c.push.ensures ∙ length-append t.stamps.items (c.args.stamp ∷ []) in
+    record {
+      room = omega arith;
+      bounded = t.bounded;
       stamps_reserved = search rules;
       records_reserved = search rules;
-      placed = ap (λ (l : List Record). placed l (vec_len c.push_reserved.new.self)) c.append.ensures.items
-          ∙ placed_append k (vec_len t.stamps) (vec_len c.push_reserved.new.self) rs fs t.placed (search rules) (search rules);
-      sorted = ap (sorted 0) c.append.ensures.items
-          ∙ sorted_append k 0 rs fs t.sorted (subst (λ (n : ℕ). placed rs n ≡ true) (sym at) t.placed) (search rules);
-      rising = ap (λ (l : List ℕ). rising 0 l (c.from-2.result + 1)) c.push_reserved.ensures.items
-          ∙ ap (λ (n : ℕ). rising 0 (vec_items t.stamps ++ (c.args.stamp ∷ [])) (n + 1)) c.from-2.ensures
-          ∙ rising_more 0 t.next (vec_items t.stamps) c.args.stamp t.rising (search rules);
+      placed = rw c.append.ensures (placed_append k (length t.stamps.items) (length c.push.new.self.items) t.records.items fs t.placed (omega arith) (omega arith));
+      rising = rw (c.push.ensures, c.from.ensures) (rising_more 0 t.next t.stamps.items c.args.stamp t.rising due);
       last = search rules;
     }
 
-pub returns : goal.returns
-returns c =
+pub returns-clause-does : goal.returns-clause-does
+returns-clause-does c =
     let t = c.args.self.now in
-    let rs = vec_items t.records in
     let fs = c.args.facts.now in
-    let at : c.shown-position.result ≡ length (vec_items t.stamps) = search rules in
+    let allowed : Ok tt ≡ c.allow_commit.result = search rules in
+    let fits : 1 + length fs ≤ t.limit - (length t.stamps.items + length t.records.items) = search rules in
+    let more = ap (λ v. length v.items) c.append.ensures ∙ length_behind c.shown-position.result t.records.items fs in
+    let stamped = ap (λ v. length v.items) c.push.ensures ∙ length-append t.stamps.items (c.args.stamp ∷ []) in
     record {
-      does = record {
-        answer = commit_taken (vec_items t.stamps) t.next (t.limit - (vec_len t.stamps + vec_len t.records)) c.args.stamp fs (search rules) (search rules) (search rules);
-        taken = λ _. record {
-          facts = added_behind (length (vec_items t.stamps)) rs (vec_items c.append.new.records) fs (c.append.ensures.items ∙ ap (λ (n : ℕ). rs ++ records_at n fs) at);
-          stamps = c.push_reserved.ensures.items;
-          next = search rules;
-          free = omega (arith, costs_length fs, c.append.ensures.len, c.push_reserved.ensures.len);
-          mark = refl;
-          fact = λ _. refl;
-        };
-        refused = search rules;
+      answer = allowed ∙ c.allow_commit.ensures ∙ ap (λ w. allowed_commit w c.args.stamp fs (1 + length fs)) c.standing.ensures
+          ∙ ap (λ n. allowed_commit (standing (traced t.stamps.items t.next (t.limit - (length t.stamps.items + length t.records.items)))) c.args.stamp fs (1 + n)) (sym (costs_length fs));
+      taken = λ _. record {
+        facts = rw (c.append.ensures, c.shown-position.ensures) (added_behind (length t.stamps.items) t.records.items fs);
+        stamps = ap (λ v. v.items) c.push.ensures;
+        next = search rules;
+        free = omega (arith, costs_length fs);
+        mark = refl;
+        fact = λ _. refl;
       };
-      keeps = tt;
+      refused = search rules;
     }

@@ -23,12 +23,9 @@ unfolding ◌∖◌
 outside K L v h o = and_from (K v) (not (L v)) h (ap not o)
 
 -- the values of terms
-here : (a v : ℕ) (η θ : Valuation) → a < 3 → v < 8 → ((w : ℕ) → variable_in (below 3 a) (Variable v) w ≡ true → θ w ≡ η w) → η v ≡ θ v
-unfolding below single
-here a v η θ h l e = sym (e v (rw (lt-ltb a 3 h, lt-ltb v 8 l) (eq-eqb v v refl)))
-
 same_value : (a : ℕ) (t : Term) (η θ : Valuation) → a < 3 → InRange t → ((w : ℕ) → variable_in (below 3 a) t w ≡ true → θ w ≡ η w) → value_of η t ≡ value_of θ t
-same_value a (Variable v) η θ h l e = here a v η θ h l e
+unfolding below single
+same_value a (Variable v) η θ h l e = sym (e v (rw (lt-ltb a 3 h, lt-ltb v 8 l) (eq-eqb v v refl)))
 same_value a (Constant c) η θ h l e = refl
 
 same_values : (a : ℕ) (ts : List Term) (η θ : Valuation) → a + length ts ≤ 3 → AllByRecursion InRange ts → ((w : ℕ) → variables_at (below 3) a ts w ≡ true → θ w ≡ η w) → map (value_of η) ts ≡ map (value_of θ) ts
@@ -49,9 +46,6 @@ moved_agrees : (K vs : NumberSet) (η η' θ : Valuation) → Varies vs η η' �
 unfolding moved
 moved_agrees K vs η η' θ w e v k = elim (cases_Bool (vs v)) [ inl o ↦ rw o refl | inr o ↦ rw o (e v (outside K vs v k o) ∙ sym (w.others v o)) ]
 
-back : (K : NumberSet) (η θ : Valuation) → ((v : ℕ) → K v ≡ true → θ v ≡ η v) → (v : ℕ) → K v ≡ true → η v ≡ θ v
-back K η θ e v k = sym (e v k)
-
 module _ (f : Facts) (τ : List ℕ) where
   pub decided : (φ : Formula) → WellFormed φ → (η θ : Valuation) (i : ℕ) → AgreeOn φ η θ → Truth f τ φ η i → Truth f τ φ θ i
   decided (verum n) w η θ i e t = t
@@ -63,7 +57,7 @@ module _ (f : Facts) (τ : List ℕ) where
   decided (exists n vs b) w η θ i e (η', x, t) = (moved vs η' θ, moved_varies vs η η' θ x, decided b w η' (moved vs η' θ) i (moved_agrees (free b) vs η η' θ x e) t)
   decided (forall n vs l r) (wl, wr) η θ i e t = λ θ' x a.
       let η' = moved vs θ' η in
-      let agrees = moved_agrees (free l ∪ free r) vs θ θ' η x (back ((free l ∪ free r) ∖ vs) η θ e) in
+      let agrees = moved_agrees (free l ∪ free r) vs θ θ' η x (λ v k. sym (e v k)) in
       decided r wr η' θ' i (λ v k. sym (agrees v (right (free l) (free r) v k)))
       (t η' (moved_varies vs θ θ' η x) (decided l wl θ' η' i (λ v k. agrees v (left (free l) (free r) v k)) a))
   decided (prev n I b) w η θ i e (k, p, d, t) = (k, p, d, decided b w η θ k e t)

@@ -1,3 +1,4 @@
+pub mod Lists
 pub mod Evaluation
 pub mod Freedom
 pub mod Reaching

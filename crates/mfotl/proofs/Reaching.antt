@@ -6,7 +6,7 @@ use Rattle.table.specs.Formula.{Formula, verum, falsum, atom, and, or, exists, f
 use Rattle.policy.specs.Wait.{upper, wait}
 use Rattle.facts.specs.Facts.{Facts}
 use Rattle.mfotl.specs.Truth.{Valuation, value_of, AtMost, ◌∈◌, Truth}
-use Rattle.mfotl.specs.Laws.{WellFormed, Rises, Alike}
+use Rattle.mfotl.specs.Laws.{WellFormed, Rises, Alike, Reach}
 
 pub turned : (f g : Facts) (τ υ : List ℕ) (time : ℕ) → Alike f τ g υ time → Alike g υ f τ time
 turned f g τ υ time a = record { there = a.back; back = a.there }
@@ -92,4 +92,11 @@ carried f g τ υ rτ rυ (until n I x y) (h, wx, wy) time a η i l b (k, e, lk,
       distance τ υ I k i (a.there.stamps k lk (omega (arith, b, near))) (a.there.stamps i l (omega (arith, b))) d,
       carried f g τ υ rτ rυ y wy time a η k lk (omega (arith, b, near)) t,
       λ j p q. carried f g τ υ rτ rυ x wx time a η j (omega (arith, q, lk)) (omega (arith, b, near, no_later τ rτ j k (omega (arith, q)) lk)) (s j p q),
+    )
+
+pub reached : Reach
+reached f g τ υ rτ rυ φ w η i l a =
+    let time = get_or τ i 0 + wait φ in (
+      carried f g τ υ rτ rυ φ w time a η i l (omega arith),
+      carried g f υ τ rυ rτ φ w time (turned f g τ υ time a) η i (a.there.shown i l (omega arith)) (omega (arith, a.there.stamps i l (omega arith))),
     )

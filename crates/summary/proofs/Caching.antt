@@ -1,6 +1,6 @@
 -- Cached nodes have rows, whose parts are sound and look at the past only.
-use Rattle.std.proofs.Common.{◌≡◌, ℕ, zero, suc, ◌<◌, Bool, true, false, not, ◌&&◌, refl, ap, inl, inr, arith}
-use Rattle.std.proofs.lemmas.Bool.{and_parts, or_parts, false≢true, cases_Bool, both_ways, and_from}
+use Rattle.std.proofs.Common.{◌≡◌, ℕ, ◌<◌, true, false, not, ◌&&◌, refl, ap, inl, inr, arith}
+use Rattle.std.proofs.lemmas.Bool.{and_parts, or_parts, not-true, false≢true, cases_Bool, both_ways, and_from}
 use Rattle.sets.specs.Sets.{NumberSet, none, ◌∪◌, ◌∖◌, empty, ◌⊆◌}
 use Rattle.table.specs.Form.{Declarations}
 use Rattle.table.specs.Formula.{Formula, verum, falsum, atom, and, or, exists, forall, prev, once, hist, next, event, always, since, until, free}
@@ -9,39 +9,20 @@ use Rattle.policy.specs.Wait.{wait}
 use Rattle.mfotl.specs.Laws.{WellFormed}
 use Rattle.summary.specs.Rows.{Summary, prevs, onces, sinces, formula, Sound}
 use Rattle.summary.specs.Growth.{Past}
-use Rattle.summary.proofs.Serving.{small}
-
-nothing : {P : Type 0} (v : ℕ) → none v ≡ true → P
-unfolding none
-nothing v h = absurd (false≢true h)
+use Rattle.summary.proofs.Serving.{nothing, eight, small}
 
 -- an empty set has none of the numbers 0 to 7
-not_so : (b : Bool) → not b ≡ true → b ≡ false
-not_so true h = absurd (false≢true h)
-not_so false h = refl
-
 none_of : (M : NumberSet) → empty M ≡ true → (v : ℕ) → v < 8 → M v ≡ false
 unfolding empty
-none_of M h v l =
-    let a = or_parts (M 0) _ (not_so _ h) in
+none_of M h =
+    let a = or_parts (M 0) _ (not-true _ h) in
     let b = or_parts (M 1) _ a.1 in
     let c = or_parts (M 2) _ b.1 in
     let d = or_parts (M 3) _ c.1 in
     let e = or_parts (M 4) _ d.1 in
     let f = or_parts (M 5) _ e.1 in
     let g = or_parts (M 6) _ f.1 in
-    at v l a.0 b.0 c.0 d.0 e.0 f.0 g.0 g.1
-  where
-    at : (v : ℕ) → v < 8 → M 0 ≡ false → M 1 ≡ false → M 2 ≡ false → M 3 ≡ false → M 4 ≡ false → M 5 ≡ false → M 6 ≡ false → M 7 ≡ false → M v ≡ false
-    at zero l a b c d e f g h = a
-    at (suc zero) l a b c d e f g h = b
-    at (suc (suc zero)) l a b c d e f g h = c
-    at (suc (suc (suc zero))) l a b c d e f g h = d
-    at (suc (suc (suc (suc zero)))) l a b c d e f g h = e
-    at (suc (suc (suc (suc (suc zero))))) l a b c d e f g h = f
-    at (suc (suc (suc (suc (suc (suc zero)))))) l a b c d e f g h = g
-    at (suc (suc (suc (suc (suc (suc (suc zero))))))) l a b c d e f g h = h
-    at (suc (suc (suc (suc (suc (suc (suc (suc v)))))))) l a b c d e f g h = absurd (omega (arith, l))
+    eight (λ v. M v ≡ false) a.0 b.0 c.0 d.0 e.0 f.0 g.0 g.1
 
 inside : (K L : NumberSet) → (K ⊆ (none ∪ L)) ≡ true → (v : ℕ) → v < 8 → K v ≡ true → L v ≡ true
 unfolding ◌∖◌ ◌∪◌ none

@@ -1,264 +1,119 @@
--- What a change of one node's rows leaves of the others, and how many rows there are.
-use Rattle.std.proofs.Common.{◌≡◌, ℕ, zero, suc, ◌+◌, ◌-◌, ◌<◌, ◌≤◌, Bool, cond, List, [], ◌∷◌, ◌++◌, length, get_or, take, drop, set, replicate, is_some, Some, None, Option, unwrap_or, sym, refl, ap, ◌∙◌, inl, inr, append_assoc, add-one, arith, length-append, length-drop, take-append-drop, length-take, length-take-le, get_or-drop, take_all, get_or-set_other, get_or-take, get_or-set_same, take-take, drop-drop, take_at, take-add, drop_at}
-use lib.ListN.{get_or-eq_default}
-use lib.Seq.{take-paste, paste, set-get_or}
+-- How the rows of one node stand among all rows, and what a change of them leaves.
+use Rattle.std.proofs.Common.{◌≡◌, ℕ, zero, suc, ◌+◌, ◌-◌, ◌<◌, ◌≤◌, List, [], ◌∷◌, ◌++◌, length, get_or, take, drop, set, sum_by, Some, None, Option, sym, refl, ap, ◌∙◌, arith, length-append, length-set, length-drop, length-take-le, take-take, drop-drop, take_at, drop_at, append_assoc, add-one, take-add, take-append-drop}
+use lib.Seq.{set-get_or}
 use Rattle.std.specs.Option.{option_map}
-use Rattle.std.specs.List.{slice_get}
-use Rattle.std.proofs.lemmas.Option.{slice_get-get_or, slice_get_past}
-use Rattle.std.proofs.lemmas.Bool.{cases_lt, lt-ltb, le-ltb, true≢false, false≢true}
+use Rattle.std.proofs.lemmas.List.{take-append-le, drop-append-le, drop-take, set-append_left, set-append_right}
+use Rattle.std.proofs.lemmas.List.Sums.{sum_by-cons, sum_by_more, sum_by-take-le}
 use Rattle.summary.specs.declared.row.Row.{Row}
-use Rattle.summary.specs.Kept.{rows_of, total, added, longer, raised_at}
-use Rattle.summary.specs.Layout.{count_of, before, laid, put_in, cut_out, place_of, no_row}
-use Rattle.summary.proofs.Declining.{same_all}
-use Rattle.summary.proofs.Raising.{raised_behind, raised_left, raised_long, raised_past}
+use Rattle.summary.specs.Kept.{rows_of, total, added}
+use Rattle.summary.specs.Layout.{size, count_of, before, laid}
 
-pub before_next : (n : ℕ) (cs : List (Option ℕ)) → before (n + 1) cs ≡ before n cs + unwrap_or (count_of cs n) 0
-unfolding before
-before_next n cs = ap (λ (m : ℕ). before m cs) (add-one n)
+pub length-laid : (cs : List (Option ℕ)) (rs : List Row) → length (laid cs rs) ≡ length cs
+length-laid [] rs = refl
+length-laid (c ∷ cs) rs = ap suc (length-laid cs (drop (size c) rs))
 
-pub before_rises : (m n : ℕ) (cs : List (Option ℕ)) → m ≤ n → before m cs ≤ before n cs
-unfolding before
-before_rises m zero cs h = let e : m ≡ 0 = omega arith in rw e (omega arith)
-before_rises m (suc n) cs h = elim (cases_lt m (suc n)) [
-  | inl l ↦ let i = before_rises m n cs (omega arith) in omega arith
-  | inr l ↦ let e : m ≡ suc n = omega arith in rw e (omega arith)
-]
+-- the rows of the node n
+pub laid_at : (cs : List (Option ℕ)) (rs : List Row) (n : ℕ) → get_or (laid cs rs) n (Some []) ≡ option_map (λ k. take k (drop (before n cs) rs)) (count_of cs n)
+laid_at [] rs n = refl
+laid_at (c ∷ cs) rs zero = refl
+laid_at (c ∷ cs) rs (suc n) =
+    laid_at cs (drop (size c) rs) n
+    ∙ ap (λ (l : List Row). option_map (λ k. take k l) (count_of cs n)) (drop-drop (before n cs) (size c) rs ∙ ap (λ (b : ℕ). drop b rs) (sym (sum_by-cons size c (take n cs))))
 
--- the counts, one of them changed
-module _ (cs : List (Option ℕ)) (n : ℕ) (c : Option ℕ) where
-  pub before_set : (m : ℕ) → m ≤ n → before m (set cs n c) ≡ before m cs
-  unfolding before
-  before_set zero h = refl
-  before_set (suc m) h =
-      let i = before_set m (omega arith) in
-      let e = ap (λ (o : Option ℕ). unwrap_or o 0) (get_or-set_other cs n m c (Some 0) (λ w. omega (arith, w))) in
-      omega (arith, i, e)
+-- the rows of n lie within all rows
+pub within : (cs : List (Option ℕ)) (n : ℕ) → n < length cs → before n cs + size (count_of cs n) ≤ sum_by size cs
+within cs n h = omega (arith, sum_by_more size cs n (Some 0) h, sum_by-take-le size cs (n + 1))
 
-  pub behind_set : (m : ℕ) → n < length cs → n < m → before m (set cs n c) + unwrap_or (count_of cs n) 0 ≡ before m cs + unwrap_or c 0
-  unfolding before
-  behind_set zero l h = absurd (omega arith)
-  behind_set (suc m) l h = elim (cases_lt n m) [
-    | inl k ↦
-        let i = behind_set m l k in
-        let e = ap (λ (o : Option ℕ). unwrap_or o 0) (get_or-set_other cs n m c (Some 0) (λ w. omega (arith, w))) in
-        omega (arith, i, e)
-    | inr k ↦
-        let w : m ≡ n = omega arith in
-        rw w (
-        let i = before_set n (omega arith) in
-        let e = ap (λ (o : Option ℕ). unwrap_or o 0) (get_or-set_same cs n c (Some 0) l) in
-        omega (arith, i, e))
-  ]
+-- k rows from the place b on, changed to `new`
+module _ (after rs new : List Row) (b k : ℕ) (is : after ≡ take b rs ++ (new ++ drop (b + k) rs)) (fits : b + k ≤ length rs) where
+  long : length (take b rs) ≡ b
+  long = length-take-le b rs (omega arith)
 
--- a part that ends before p is the same in the first p rows
-window : (a k p : ℕ) (rs : List Row) → a + k ≤ p → take k (drop a (take p rs)) ≡ take k (drop a rs)
-window zero k p rs h = take-take k p rs (omega arith)
-window (suc a) k zero rs h = absurd (omega arith)
-window (suc a) k (suc p) [] h = refl
-window (suc a) k (suc p) (r ∷ rs) h = window a k p rs (omega arith)
+  -- the rows of a node before them are the same
+  ahead : (d : Option ℕ) → size d ≤ b → option_map (λ j. take j after) d ≡ option_map (λ j. take j rs) d
+  ahead None h = refl
+  ahead (Some j) h = ap Some (ap (take j) is ∙ take-append-le j (take b rs) (new ++ drop (b + k) rs) (omega (arith, long)) ∙ take-take j b rs h)
 
-mapped_same : (o : Option ℕ) (f g : ℕ → List Row) → ((k : ℕ) → k ≤ unwrap_or o 0 → f k ≡ g k) → option_map f o ≡ option_map g o
-mapped_same None f g h = refl
-mapped_same (Some k) f g h = ap Some (h k (omega arith))
+  -- what is left of them behind such a node
+  behind : (j a : ℕ) → b ≡ j + a → drop j after ≡ take a (drop j rs) ++ (new ++ drop (a + k) (drop j rs))
+  behind j a e =
+      ap (drop j) is ∙ drop-append-le j (take b rs) (new ++ drop (b + k) rs) (omega (arith, long))
+      ∙ ap (λ (m : ℕ). drop j (take m rs) ++ (new ++ drop (m + k) rs)) e
+      ∙ (λ i. drop-take j a rs i ++ (new ++ whole i))
+    where
+      whole : drop (j + a + k) rs ≡ drop (a + k) (drop j rs)
+      whole = ap (λ (m : ℕ). drop m rs) (let q : j + a + k ≡ j + (a + k) = omega arith in q) ∙ sym (drop-drop (a + k) j rs)
 
--- the rows of the node n, changed to `new`
-module _ (cs : List (Option ℕ)) (n : ℕ) (c : Option ℕ) (rs new after : List Row) (size : length new ≡ unwrap_or c 0) (lies : n < length cs) (fits : before n cs ≤ length rs)
-    (is : after ≡ take (before n cs) rs ++ (new ++ drop (before n cs + unwrap_or (count_of cs n) 0) rs)) where
-  first : length (take (before n cs) rs) ≡ before n cs
-  first = length-take-le (before n cs) rs fits
+  -- the changed ones, where they stand in front
+  changed : b ≡ 0 → (c : Option ℕ) → length new ≡ size c → option_map (λ j. take j after) c ≡ option_map (λ _. new) c
+  changed z None e = refl
+  changed z (Some j) e = ap Some (ap (take j) (is ∙ ap (λ (m : ℕ). take m rs ++ (new ++ drop (b + k) rs)) z) ∙ take_at new (drop (b + k) rs) j e)
 
-  front : take (before n cs) after ≡ take (before n cs) rs
-  front = ap (take (before n cs)) is ∙ take_at (take (before n cs) rs) (new ++ drop (before n cs + unwrap_or (count_of cs n) 0) rs) (before n cs) first
+  rest : b ≡ 0 → (c : Option ℕ) → length new ≡ size c → drop (size c) after ≡ drop k rs
+  rest z c e = ap (drop (size c)) (is ∙ ap (λ (m : ℕ). take m rs ++ (new ++ drop (b + k) rs)) z) ∙ drop_at new (drop (b + k) rs) (size c) e ∙ ap (λ (m : ℕ). drop m rs) (let q : b + k ≡ k = omega (arith, z) in q)
 
-  rest : drop (before n cs) after ≡ new ++ drop (before n cs + unwrap_or (count_of cs n) 0) rs
-  rest = ap (drop (before n cs)) is ∙ drop_at (take (before n cs) rs) (new ++ drop (before n cs + unwrap_or (count_of cs n) 0) rs) (before n cs) first
+-- the rows of n, changed to `new`
+pub laid_set : (cs : List (Option ℕ)) (n : ℕ) (c : Option ℕ) (rs new after : List Row) (b k : ℕ) → n < length cs → b ≡ before n cs → k ≡ size (count_of cs n) → b + k ≤ length rs
+    → after ≡ take b rs ++ (new ++ drop (b + k) rs) → length new ≡ size c → laid (set cs n c) after ≡ set (laid cs rs) n (option_map (λ _. new) c)
+laid_set [] n c rs new after b k l p q f is e = absurd (omega arith)
+laid_set (d ∷ cs) zero c rs new after b k l p q f is e =
+    λ i. changed after rs new b k is f p c e i ∷ laid cs ((rest after rs new b k is f p c e ∙ ap (λ (m : ℕ). drop m rs) q) i)
+laid_set (d ∷ cs) (suc n) c rs new after b k l p q f is e =
+    let s : b ≡ size d + before n cs = p ∙ sum_by-cons size d (take n cs) in
+    λ i. ahead after rs new b k is f d (omega (arith, s)) i
+    ∷ laid_set cs n c (drop (size d) rs) new (drop (size d) after) (before n cs) k (omega arith) refl q (omega (arith, s, length-drop (size d) rs)) (behind after rs new b k is f (size d) (before n cs) s) e i
 
-  back : drop (before n cs + unwrap_or c 0) after ≡ drop (before n cs + unwrap_or (count_of cs n) 0) rs
-  back = sym (drop-drop (unwrap_or c 0) (before n cs) after) ∙ ap (drop (unwrap_or c 0)) rest ∙ drop_at new (drop (before n cs + unwrap_or (count_of cs n) 0) rs) (unwrap_or c 0) size
+-- the rows of n, where it is not lost
+abbrev pub rows_at : List (Option ℕ) → List Row → ℕ → ℕ → List Row
+rows_at cs rs n k = take k (drop (before n cs) rs)
 
-  lower : (m : ℕ) → m < n → laid (set cs n c) after m ≡ laid cs rs m
-  unfolding before
-  lower m l =
-      ap (option_map (λ k. take k (drop (before m (set cs n c)) after))) (get_or-set_other cs n m c (Some 0) (λ w. omega (arith, w)))
-      ∙ mapped_same (count_of cs m) (λ k. take k (drop (before m (set cs n c)) after)) (λ k. take k (drop (before m cs) rs)) (λ k h.
-      let up = before_rises (suc m) n cs (omega arith) in
-      let ends : before m cs + k ≤ before n cs = omega (arith, up, h) in
-      ap (λ (b : ℕ). take k (drop b after)) (before_set cs n c m (omega arith))
-      ∙ sym (window (before m cs) k (before n cs) after ends)
-      ∙ ap (λ (l : List Row). take k (drop (before m cs) l)) front
-      ∙ window (before m cs) k (before n cs) rs ends)
+-- how many rows a node has, and all nodes below n
+pub size_laid : (cs : List (Option ℕ)) (rs : List Row) (n : ℕ) → before n cs + size (count_of cs n) ≤ length rs → length (rows_of (get_or (laid cs rs) n (Some []))) ≡ size (count_of cs n)
+size_laid cs rs n f = ap (λ (o : Option (List Row)). length (rows_of o)) (laid_at cs rs n) ∙ at (count_of cs n) f
+  where
+    at : (c : Option ℕ) → before n cs + size c ≤ length rs → length (rows_of (option_map (rows_at cs rs n) c)) ≡ size c
+    at None g = refl
+    at (Some k) g = length-take-le k (drop (before n cs) rs) (omega (arith, length-drop (before n cs) rs))
 
-  higher : (m : ℕ) → n < m → laid (set cs n c) after m ≡ laid cs rs m
-  unfolding before
-  higher m l =
-      let b = before n cs in
-      let up = before_rises (suc n) m cs (omega arith) in
-      let e = before m cs - (b + unwrap_or (count_of cs n) 0) in
-      let old : before m cs ≡ b + unwrap_or (count_of cs n) 0 + e = omega (arith, up) in
-      let now : before m (set cs n c) ≡ b + unwrap_or c 0 + e = omega (arith, up, behind_set cs n c m lies l) in
-      let same : drop (before m (set cs n c)) after ≡ drop (before m cs) rs =
-      ap (λ (k : ℕ). drop k after) now ∙ sym (drop-drop e (b + unwrap_or c 0) after) ∙ ap (drop e) back
-      ∙ drop-drop e (b + unwrap_or (count_of cs n) 0) rs ∙ sym (ap (λ (k : ℕ). drop k rs) old) in
-      ap (option_map (λ k. take k (drop (before m (set cs n c)) after))) (get_or-set_other cs n m c (Some 0) (λ w. omega (arith, w)))
-      ∙ ap (λ (l : List Row). option_map (λ k. take k l) (count_of cs m)) same
+pub total_laid : (cs : List (Option ℕ)) (rs : List Row) → sum_by size cs ≤ length rs → (n : ℕ) → n ≤ length cs → total n (λ m. get_or (laid cs rs) m (Some [])) ≡ before n cs
+total_laid cs rs f zero h = refl
+total_laid cs rs f (suc n) h =
+    let up = within cs n (omega arith) in
+    omega (arith, total_laid cs rs f n (omega arith), size_laid cs rs n (omega (arith, up, f)), sum_by_more size cs n (Some 0) (omega arith), ap (λ (m : ℕ). before m cs) (add-one n))
 
-  pub others : (m : ℕ) → (m ≡ n → ⊥) → laid (set cs n c) after m ≡ laid cs rs m
-  others m ne = elim (cases_lt m n) [
-    | inl l ↦ lower m l
-    | inr l ↦ higher m (omega (arith, ne))
-  ]
-
-  pub here : c ≡ Some (length new) → laid (set cs n c) after n ≡ Some new
-  here e =
-      ap (option_map (λ k. take k (drop (before n (set cs n c)) after))) (get_or-set_same cs n c (Some 0) lies ∙ e)
-      ∙ ap Some (ap (λ (b : ℕ). take (length new) (drop b after)) (before_set cs n c n (omega arith))
-      ∙ ap (take (length new)) rest ∙ take_at new (drop (before n cs + unwrap_or (count_of cs n) 0) rs) (length new) refl)
-
--- how many rows are kept
-pub size_laid : (o : Option ℕ) (b : ℕ) (rs : List Row) → b + unwrap_or o 0 ≤ length rs → length (rows_of (option_map (λ k. take k (drop b rs)) o)) ≡ unwrap_or o 0
-size_laid None b rs h = refl
-size_laid (Some k) b rs h = length-take-le k (drop b rs) (omega (arith, length-drop b rs))
-
-pub total_laid : (n top : ℕ) (cs : List (Option ℕ)) (rs : List Row) → n ≤ top → before top cs ≤ length rs → total n (laid cs rs) ≡ before n cs
-unfolding before
-total_laid zero top cs rs h l = refl
-total_laid (suc n) top cs rs h l =
-    let i = total_laid n top cs rs (omega arith) l in
-    let up = before_rises (suc n) top cs h in
-    let one : length (rows_of (laid cs rs n)) ≡ unwrap_or (count_of cs n) 0 = size_laid (count_of cs n) (before n cs) rs (omega (arith, up, l)) in
-    omega (arith, i, one)
-
--- rows that are moved down over others, and the end cut off
-pub cut_is : (b k n : ℕ) (rs : List Row) → n ≡ length rs → b + k ≤ n → take (n - k) (paste rs b (drop (b + k) rs) (n - (b + k))) ≡ cut_out b k rs
-cut_is b k n rs e h =
-    let w : n - k ≡ b + (n - (b + k)) = omega arith in
-    ap (λ (m : ℕ). take m (paste rs b (drop (b + k) rs) (n - (b + k)))) w
-    ∙ take-paste rs b (drop (b + k) rs) (n - (b + k)) (omega arith) (omega (arith, length-drop (b + k) rs))
-    ∙ ap (λ (l : List Row). take b rs ++ l) (take_all (n - (b + k)) (drop (b + k) rs) (omega (arith, length-drop (b + k) rs)))
-
--- the rows of an existing node lie within all rows
-pub within : (n : ℕ) (cs : List (Option ℕ)) → n < 32 → before n cs + unwrap_or (count_of cs n) 0 ≤ before 32 cs
-unfolding before
-within n cs h = before_rises (suc n) 32 cs h
-
--- one row of the node n, where it stands among all rows
+-- one row of the node n more, none, or one of them changed
 module _ (cs : List (Option ℕ)) (n k : ℕ) (rs : List Row) (lies : n < length cs) (is : count_of cs n ≡ Some k) (fits : before n cs + k ≤ length rs) where
-  size_is : unwrap_or (count_of cs n) 0 ≡ k
-  size_is = ap (λ (o : Option ℕ). unwrap_or o 0) is
+  held : get_or (laid cs rs) n (Some []) ≡ Some (rows_at cs rs n k)
+  held = laid_at cs rs n ∙ ap (option_map (rows_at cs rs n)) is
 
-  abbrev mine : List Row
-  mine = take k (drop (before n cs) rs)
-
-  held_is : laid cs rs n ≡ Some mine
-  held_is = ap (option_map (λ j. take j (drop (before n cs) rs))) is
-
-  mine_long : length mine ≡ k
+  mine_long : length (rows_at cs rs n k) ≡ k
   mine_long = length-take-le k (drop (before n cs) rs) (omega (arith, length-drop (before n cs) rs))
 
-  tail_is : (new : List Row) → new ++ drop (before n cs + k) rs ≡ new ++ drop (before n cs + unwrap_or (count_of cs n) 0) rs
-  tail_is new = ap (λ (j : ℕ). new ++ drop (before n cs + j) rs) (sym size_is)
+  counted : k ≡ size (count_of cs n)
+  counted = sym (ap size is)
 
-  put_is : (r : Row) → put_in (before n cs + k) r rs ≡ take (before n cs) rs ++ ((mine ++ (r ∷ [])) ++ drop (before n cs + unwrap_or (count_of cs n) 0) rs)
-  put_is r =
-      ap (λ (l : List Row). l ++ (r ∷ drop (before n cs + k) rs)) (take-add (before n cs) k rs)
-      ∙ append_assoc (take (before n cs) rs) mine (r ∷ drop (before n cs + k) rs)
-      ∙ ap (λ (l : List Row). take (before n cs) rs ++ l) (sym (append_assoc mine (r ∷ []) (drop (before n cs + k) rs)) ∙ tail_is (mine ++ (r ∷ [])))
+  pub lost : laid (set cs n None) (take (before n cs) rs ++ drop (before n cs + k) rs) ≡ set (laid cs rs) n None
+  lost = laid_set cs n None rs [] _ (before n cs) k lies refl counted fits refl refl
 
-  more_long : (r : Row) → length (mine ++ (r ∷ [])) ≡ k + 1
-  more_long r = length-append mine (r ∷ []) ∙ ap (λ (j : ℕ). j + 1) mine_long
+  pub kept : (r : Row) → laid (set cs n (Some (k + 1))) (take (before n cs + k) rs ++ (r ∷ drop (before n cs + k) rs)) ≡ set (laid cs rs) n (added (get_or (laid cs rs) n (Some [])) r)
+  kept r =
+      laid_set cs n (Some (k + 1)) rs (rows_at cs rs n k ++ (r ∷ [])) _ (before n cs) k lies refl counted fits
+      (ap (λ (l : List Row). l ++ (r ∷ drop (before n cs + k) rs)) (take-add (before n cs) k rs) ∙ simp append_assoc)
+      (omega (arith, length-append (rows_at cs rs n k) (r ∷ []), mine_long))
+      ∙ ap (λ (o : Option (List Row)). set (laid cs rs) n (added o r)) (sym held)
 
-  module _ (r : Row) (after : List Row) (e : after ≡ put_in (before n cs + k) r rs) where
-    pub kept_others : (m : ℕ) → (m ≡ n → ⊥) → laid (set cs n (Some (k + 1))) after m ≡ laid cs rs m
-    kept_others = others cs n (Some (k + 1)) rs (mine ++ (r ∷ [])) after (more_long r) lies (omega (arith, fits)) (e ∙ put_is r)
+  parts : rs ≡ take (before n cs) rs ++ (rows_at cs rs n k ++ drop (before n cs + k) rs)
+  parts = sym (take-append-drop (before n cs) rs)
+      ∙ ap (λ (l : List Row). take (before n cs) rs ++ l) (sym (take-append-drop k (drop (before n cs) rs)) ∙ ap (λ (l : List Row). rows_at cs rs n k ++ l) (drop-drop k (before n cs) rs))
 
-    pub kept_here : laid (set cs n (Some (k + 1))) after n ≡ added (laid cs rs n) r
-    kept_here = here cs n (Some (k + 1)) rs (mine ++ (r ∷ [])) after (more_long r) lies (omega (arith, fits)) (e ∙ put_is r) (ap Some (sym (more_long r)))
-        ∙ ap (λ (o : Option (List Row)). added o r) (sym held_is)
+  set_mine : (i : ℕ) → i < k → (r : Row) → set rs (before n cs + i) r ≡ take (before n cs) rs ++ (set (rows_at cs rs n k) i r ++ drop (before n cs + k) rs)
+  set_mine i h r =
+      ap (λ (l : List Row). set l (before n cs + i) r) parts
+      ∙ set-append_right (take (before n cs) rs) (rows_at cs rs n k ++ drop (before n cs + k) rs) (before n cs) (before n cs + i) r (length-take-le (before n cs) rs (omega arith)) (omega arith)
+      ∙ ap (λ (m : ℕ). take (before n cs) rs ++ set (rows_at cs rs n k ++ drop (before n cs + k) rs) m r) (let e : before n cs + i - before n cs ≡ i = omega arith in e)
+      ∙ ap (λ (l : List Row). take (before n cs) rs ++ l) (set-append_left (rows_at cs rs n k) (drop (before n cs + k) rs) i r (omega (arith, mine_long)))
 
-  pub lost_others : (after : List Row) → after ≡ cut_out (before n cs) k rs → (m : ℕ) → (m ≡ n → ⊥) → laid (set cs n None) after m ≡ laid cs rs m
-  lost_others after e = others cs n None rs [] after refl lies (omega (arith, fits)) (e ∙ ap (λ (l : List Row). take (before n cs) rs ++ l) (tail_is []))
-
-  pub lost_here : (after : List Row) → laid (set cs n None) after n ≡ None
-  lost_here after = ap (option_map (λ j. take j (drop (before n (set cs n None)) after))) (get_or-set_same cs n None (Some 0) lies)
-
-  whole : rs ≡ take (before n cs) rs ++ (mine ++ drop (before n cs + k) rs)
-  whole = sym (take-append-drop (before n cs) rs)
-      ∙ ap (λ (l : List Row). take (before n cs) rs ++ l) (sym (take-append-drop k (drop (before n cs) rs)) ∙ ap (λ (l : List Row). mine ++ l) (drop-drop k (before n cs) rs))
-
-  raise_is : (i : ℕ) → i < k → raised_at rs (before n cs + i) ≡ take (before n cs) rs ++ (raised_at mine i ++ drop (before n cs + unwrap_or (count_of cs n) 0) rs)
-  raise_is i l =
-      ap (λ (l : List Row). raised_at l (before n cs + i)) whole
-      ∙ raised_behind (take (before n cs) rs) (mine ++ drop (before n cs + k) rs) (before n cs) i (length-take-le (before n cs) rs (omega (arith, fits)))
-      ∙ ap (λ (l : List Row). take (before n cs) rs ++ l) (raised_left mine (drop (before n cs + k) rs) i (omega (arith, l, mine_long)) ∙ tail_is (raised_at mine i))
-
-  module _ (i : ℕ) (l : i < k) (after : List Row) (e : after ≡ raised_at rs (before n cs + i)) where
-    same_counts : set cs n (Some k) ≡ cs
-    same_counts = ap (set cs n) (sym is) ∙ set-get_or cs n (Some 0)
-
-    pub long_others : (m : ℕ) → (m ≡ n → ⊥) → laid cs after m ≡ laid cs rs m
-    long_others m ne = ap (λ (c : List (Option ℕ)). laid c after m) (sym same_counts)
-        ∙ others cs n (Some k) rs (raised_at mine i) after (raised_long mine i ∙ mine_long) lies (omega (arith, fits)) (e ∙ raise_is i l) m ne
-
-    pub long_here : laid cs after n ≡ longer (laid cs rs n) i
-    long_here = ap (λ (c : List (Option ℕ)). laid c after n) (sym same_counts)
-        ∙ here cs n (Some k) rs (raised_at mine i) after (raised_long mine i ∙ mine_long) lies (omega (arith, fits)) (e ∙ raise_is i l) (ap Some (sym (raised_long mine i ∙ mine_long)))
-        ∙ ap (λ (o : Option (List Row)). longer o i) (sym held_is)
-
--- where there is no such row nothing is raised
-pub long_none : (o : Option ℕ) (b i : ℕ) (rs : List Row) → unwrap_or o 0 ≤ i → longer (option_map (λ k. take k (drop b rs)) o) i ≡ option_map (λ k. take k (drop b rs)) o
-long_none None b i rs h = refl
-long_none (Some k) b i rs h = ap Some (raised_past (take k (drop b rs)) i (omega (arith, h, length-take k (drop b rs))))
-
--- a row that is read
-pub row_there : (o : Option ℕ) (b i : ℕ) (rs : List Row) → i < unwrap_or o 0 → b + unwrap_or o 0 ≤ length rs → slice_get (rows_of (option_map (λ k. take k (drop b rs)) o)) i ≡ Some (get_or rs (b + i) no_row)
-row_there None b i rs l h = absurd (omega arith)
-row_there (Some k) b i rs l h =
-    slice_get-get_or (take k (drop b rs)) i no_row (omega (arith, l, length-take-le k (drop b rs) (omega (arith, h, length-drop b rs))))
-    ∙ ap Some (get_or-take k (drop b rs) i no_row l ∙ get_or-drop b rs i no_row)
-
-pub row_none : (o : Option ℕ) (b i : ℕ) (rs : List Row) → unwrap_or o 0 ≤ i → slice_get (rows_of (option_map (λ k. take k (drop b rs)) o)) i ≡ None
-row_none None b i rs h = refl
-row_none (Some k) b i rs h = slice_get_past (take k (drop b rs)) i (omega (arith, h, length-take k (drop b rs)))
-
--- what a place that was found says
-pub place_some : (cs : List (Option ℕ)) (n i p : ℕ) → Some p ≡ place_of cs n i → (i < unwrap_or (count_of cs n) 0) × (p ≡ before n cs + i)
-place_some cs n i p e = elim (cases_lt i (unwrap_or (count_of cs n) 0)) [
-  | inl l ↦ (l, ap (λ (o : Option ℕ). unwrap_or o 0) (e ∙ ap (λ (b : Bool). cond b (Some (before n cs + i)) None) (lt-ltb i (unwrap_or (count_of cs n) 0) l)))
-  | inr l ↦ absurd (true≢false (ap is_some (e ∙ ap (λ (b : Bool). cond b (Some (before n cs + i)) None) (le-ltb i (unwrap_or (count_of cs n) 0) l))))
-]
-
-pub place_none : (cs : List (Option ℕ)) (n i : ℕ) → None ≡ place_of cs n i → unwrap_or (count_of cs n) 0 ≤ i
-place_none cs n i e = elim (cases_lt i (unwrap_or (count_of cs n) 0)) [
-  | inl l ↦ absurd (false≢true (ap is_some (e ∙ ap (λ (b : Bool). cond b (Some (before n cs + i)) None) (lt-ltb i (unwrap_or (count_of cs n) 0) l))))
-  | inr l ↦ l
-]
-
--- a table without rows
-pub none_laid : (rs : List Row) (n : ℕ) → laid (replicate 32 (Some 0)) rs n ≡ Some []
-none_laid rs n = ap (option_map (λ k. take k (drop (before n (replicate 32 (Some 0))) rs))) (same_all 32 n (Some 0))
-
--- counts that are all the same, and of no rows
-size_none : (k n : ℕ) (o : Option ℕ) → unwrap_or o 0 ≡ 0 → unwrap_or (count_of (replicate k o) n) 0 ≡ 0
-size_none zero n o e = refl
-size_none (suc k) zero o e = e
-size_none (suc k) (suc n) o e = size_none k n o e
-
-pub none_before : (n k : ℕ) (o : Option ℕ) → unwrap_or o 0 ≡ 0 → before n (replicate k o) ≡ 0
-unfolding before
-none_before zero k o e = refl
-none_before (suc n) k o e = let i = none_before n k o e in let z = size_none k n o e in omega (arith, i, z)
-
-pub before_zero : (cs : List (Option ℕ)) → 0 ≡ before 0 cs
-unfolding before
-before_zero cs = refl
-
--- a node that has a row exists
-pub lies_there : (cs : List (Option ℕ)) (n i : ℕ) → i < unwrap_or (count_of cs n) 0 → n < length cs
-lies_there cs n i h = elim (cases_lt n (length cs)) [
-  | inl l ↦ l
-  | inr l ↦ absurd (omega (arith, h, ap (λ (o : Option ℕ). unwrap_or o 0) (get_or-eq_default cs (Some 0) l)))
-]
-
-pub count_some : (o : Option ℕ) (i : ℕ) → i < unwrap_or o 0 → o ≡ Some (unwrap_or o 0)
-count_some None i h = absurd (omega arith)
-count_some (Some k) i h = refl
+  pub changed_at : (i : ℕ) → i < k → (r : Row) → laid cs (set rs (before n cs + i) r) ≡ set (laid cs rs) n (Some (set (rows_at cs rs n k) i r))
+  changed_at i h r =
+      ap (λ (c : List (Option ℕ)). laid c (set rs (before n cs + i) r)) (sym (ap (set cs n) (sym is) ∙ set-get_or cs n (Some 0)))
+      ∙ laid_set cs n (Some k) rs (set (rows_at cs rs n k) i r) _ (before n cs) k lies refl counted fits (set_mine i h r) (length-set (rows_at cs rs n k) i r ∙ mine_long)

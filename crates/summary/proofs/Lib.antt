@@ -1,5 +1,4 @@
 pub mod Declining
-pub mod Raising
 pub mod Laid
 pub mod Tables
 pub mod Serving

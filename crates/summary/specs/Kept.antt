@@ -1,5 +1,5 @@
 -- What a keeper holds, and what one operation may do to it.
-use Rattle.std.specs.Prelude.{◌≡◌, ℕ, zero, suc, ◌+◌, ◌-◌, ◌^◌, ◌<◌, ◌≤◌, min, ◌⊎◌, List, [], ◌∷◌, ◌++◌, length, Some, None, Option, ◌≢◌}
+use Rattle.std.specs.Prelude.{◌≡◌, ℕ, zero, suc, ◌+◌, ◌-◌, ◌^◌, ◌<◌, ◌≤◌, min, ◌⊎◌, List, [], ◌∷◌, ◌++◌, length, Some, None, Option, ◌≢◌, slice_index_or, slice_set}
 use Rattle.summary.specs.declared.row.Row.{Row}
 
 -- of each node its rows, in the order in which they were offered, or None where they are lost
@@ -26,11 +26,13 @@ added (Some rs) r = Some (rs ++ (r ∷ []))
 abbrev pub raised : Row → Row
 raised r = record { values = r.values; first = r.first; last = min (r.last + 1) (2 ^ 64 - 1) }
 
+-- what stands for a row where there is none
+abbrev pub no_row : Row
+no_row = record { values = []; first = 0; last = 0 }
+
 -- the i-th of the rows one position longer; where there is no such row nothing changes
 abbrev pub raised_at : List Row → ℕ → List Row
-raised_at [] i = []
-raised_at (r ∷ rs) zero = raised r ∷ rs
-raised_at (r ∷ rs) (suc i) = r ∷ raised_at rs i
+raised_at rs i = slice_set rs i (raised (slice_index_or rs i no_row))
 
 abbrev pub longer : Option (List Row) → ℕ → Option (List Row)
 longer None i = None

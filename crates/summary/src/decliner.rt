@@ -1,5 +1,5 @@
 //! The keeper that declines every row.
-ghost use Rattle.std.specs.Prelude.{◌≡◌, ℕ, false, [], Some, slice_index_or};
+ghost use Rattle.std.specs.Prelude.{◌≡◌, ℕ, false, [], Some};
 ghost use Rattle.summary.specs.Kept.{Declines};
 ghost use Rattle.summary.specs.Layout.{declined};
 ghost use Rattle.std.proofs.Common.{rules};
@@ -10,6 +10,7 @@ use crate::row::Row;
 /// A keeper that keeps no row: each node that is offered one is lost until the keeper is emptied.
 #[derive(Clone, Copy)]
 pub struct Decliner {
+    // One flag for each node, and no set that grows: no call allocates.
     lost: [bool; 32],
 }
 
@@ -20,13 +21,6 @@ impl Decliner {
     {
         Decliner { lost: [false; 32] }
     }
-}
-
-/// Whether a node is lost. A node from 32 on does not exist and is never lost.
-fn lost_at(lost: &[bool; 32], node: usize) -> bool
-    ensures { result ≡ slice_index_or lost.now node false }
-{
-    node < 32 && lost[node]
 }
 
 impl Keeper for Decliner {
@@ -41,6 +35,7 @@ impl Keeper for Decliner {
     }
 
     fn offer(&mut self, node: usize, _row: Row) {
+        // By index: of an array written through `get_mut` a proof knows no element.
         if node < 32 {
             self.lost[node] = true;
         }
@@ -49,7 +44,7 @@ impl Keeper for Decliner {
     fn lengthen(&mut self, _node: usize, _index: usize) {}
 
     fn is_lost(&self, node: usize) -> bool {
-        lost_at(&self.lost, node)
+        self.lost.get(node).copied().unwrap_or(false)
     }
 
     fn count(&self, _node: usize) -> usize {

@@ -5,6 +5,7 @@ ghost use Rattle.summary.specs.Kept.{Kept, Operation, emptying, offering, length
 
 use crate::row::Row;
 
+// The calls name a node and an index as two numbers, any numbers: that is the form in which a monitor asks.
 /// Holds of each node, 0 to 31, its rows in the order in which they were offered, or the word lost.
 pub trait Keeper {
     /// Of each node its rows, or none where they are lost.

@@ -6,7 +6,6 @@ ghost use Rattle.summary.specs.Rows.{RowsServe};
 
 mod decliner;
 mod keeper;
-mod layout;
 mod row;
 mod row_table;
 

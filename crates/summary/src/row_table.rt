@@ -1,13 +1,12 @@
 //! The keeper of 512 rows.
-ghost use Rattle.std.specs.Prelude.{◌≡◌, ℕ, ◌<◌, ◌≤◌, [], length, IfOk, Some, None, vec_len, vec_capacity};
-ghost use Rattle.summary.specs.Kept.{Elsewhere, added, Tables};
-ghost use Rattle.summary.specs.Layout.{before, laid, count_of, place_of};
+ghost use Rattle.std.specs.Prelude.{◌≡◌, ℕ, ◌<◌, ◌≤◌, [], length, sum_by, IfOk, Some, vec_len, vec_capacity};
+ghost use Rattle.summary.specs.Kept.{Tables};
+ghost use Rattle.summary.specs.Layout.{before, count_of, place_of, size};
 ghost use Rattle.summary.specs.Laws.{tables_does};
 
 mod lend;
 
 use crate::keeper::Keeper;
-use crate::layout::{count_of, cut_out, insert, start_of};
 use crate::row::Row;
 use std::alloc::{AllocError, Global};
 
@@ -15,20 +14,24 @@ use std::alloc::{AllocError, Global};
 /// rows are used again. All memory is reserved when it is made.
 #[derive(Drop)]
 pub struct RowTable {
-    // The rows of a node stand together, in the order in which they were offered, and the nodes in rising order.
+    // One block of memory that all nodes share. The rows of a node stand together, in the order in which they were offered,
+    // and the nodes in rising order, so that reading a row needs no scan: rows in one list with their nodes, to be filtered,
+    // took five times as long to read.
     rows: Vec<Row>,
     // How many rows each node has, or none where they are lost.
     counts: [Option<usize>; 32],
     ghost sized: { length counts ≡ 32 },
-    ghost counted: { vec_len rows ≡ before 32 counts },
+    ghost counted: { vec_len rows ≡ sum_by size counts },
     ghost few: { vec_len rows ≤ 512 },
     ghost reserved: { 512 ≤ vec_capacity rows },
 }
 
 impl RowTable {
+    ghost use Rattle.summary.specs.Held.{held_by};
+
     /// A table without rows, in which no node is lost.
     pub fn new(heap: Global) -> Result<RowTable, AllocError>
-        ensures { IfOk result (λ t. (n : ℕ) → laid t.counts t.rows.items n ≡ Some []) }
+        ensures { IfOk result (λ t. (n : ℕ) → held_by t n ≡ Some []) }
     {
         let rows = Vec::with_capacity(heap, 512)?;
         Ok(RowTable {
@@ -37,50 +40,40 @@ impl RowTable {
         })
     }
 
+    /// How many rows a node has, or none where they are lost. A node from 32 on does not exist and has no rows.
+    fn count_of(&self, node: usize) -> Option<usize>
+        ensures { result ≡ count_of self.now.counts node }
+    {
+        self.counts.get(node).copied().unwrap_or(Some(0))
+    }
+
+    /// Where the rows of a node start: how many rows the nodes before it have.
+    fn start_of(&self, node: usize) -> usize
+        requires { node ≤ 32 }
+        ensures { result ≡ before node self.now.counts }
+    {
+        self.counts[..node]
+            .iter()
+            .map(|count| count.unwrap_or(0))
+            .sum()
+    }
+
     /// Where a row of a node stands among all rows.
     fn place(&self, node: usize, index: usize) -> Option<usize>
         ensures { result ≡ place_of self.now.counts node index }
     {
-        let count = count_of(&self.counts, node).unwrap_or(0);
-        if index < count {
-            Some(start_of(&self.counts, node) + index)
-        } else {
-            None
-        }
-    }
-
-    /// Puts a row behind those of its node.
-    fn keep(&mut self, node: usize, count: usize, row: Row)
-        requires node { node < 32 }
-        requires count { count_of self.old.counts node ≡ Some count }
-        requires room { vec_len self.old.rows < 512 }
-        ensures others { Elsewhere node (laid self.old.counts self.old.rows.items) (laid self.new.counts self.new.rows.items) }
-        ensures here { laid self.new.counts self.new.rows.items node ≡ added (laid self.old.counts self.old.rows.items node) row }
-    {
-        let start = start_of(&self.counts, node);
-        insert(&mut self.rows, start + count, row);
-        self.counts[node] = Some(count + 1);
-    }
-
-    /// Marks a node as lost and takes its rows out.
-    fn lose(&mut self, node: usize, count: usize)
-        requires node { node < 32 }
-        requires count { count_of self.old.counts node ≡ Some count }
-        ensures others { Elsewhere node (laid self.old.counts self.old.rows.items) (laid self.new.counts self.new.rows.items) }
-        ensures here { laid self.new.counts self.new.rows.items node ≡ None }
-    {
-        let start = start_of(&self.counts, node);
-        cut_out(&mut self.rows, start, count);
-        self.counts[node] = None;
+        (index < self.count(node)).then(|| self.start_of(node) + index)
     }
 }
 
 impl Keeper for RowTable {
-    ghost held = { λ t. laid t.counts t.rows.items };
+    ghost use Rattle.summary.specs.Held.{held_by};
 
-    ghost takes = { λ a o b. Tables (laid a.counts a.rows.items) o (laid b.counts b.rows.items) };
+    ghost held = { held_by };
 
-    ghost does = { λ a b o h. tables_does (laid a.counts a.rows.items) (laid b.counts b.rows.items) o h };
+    ghost takes = { λ a o b. Tables (held_by a) o (held_by b) };
+
+    ghost does = { λ a b o h. tables_does (held_by a) (held_by b) o h };
 
     fn empty(&mut self) {
         self.rows.clear();
@@ -88,16 +81,19 @@ impl Keeper for RowTable {
     }
 
     fn offer(&mut self, node: usize, row: Row) {
-        if node >= 32 {
+        // A node from 32 on does not exist, and a lost one takes nothing.
+        let Some(Some(count)) = self.counts.get(node).copied() else {
             return;
-        }
-        if let Some(count) = count_of(&self.counts, node) {
-            let full = self.rows.len() >= 512;
-            if full {
-                self.lose(node, count);
-            } else {
-                self.keep(node, count, row);
-            }
+        };
+        let start = self.start_of(node);
+        let fits = self.rows.len() < 512;
+        if fits {
+            // The reserved room is not used up, so this neither allocates nor fails.
+            self.rows.insert(start + count, row).unwrap();
+            self.counts[node] = Some(count + 1);
+        } else {
+            self.rows.drain(start..start + count);
+            self.counts[node] = None;
         }
     }
 
@@ -109,17 +105,14 @@ impl Keeper for RowTable {
     }
 
     fn is_lost(&self, node: usize) -> bool {
-        count_of(&self.counts, node).is_none()
+        self.count_of(node).is_none()
     }
 
     fn count(&self, node: usize) -> usize {
-        count_of(&self.counts, node).unwrap_or(0)
+        self.count_of(node).unwrap_or(0)
     }
 
     fn row(&self, node: usize, index: usize) -> Option<Row> {
-        match self.place(node, index) {
-            Some(at) => Some(self.rows[at]),
-            None => None,
-        }
+        self.place(node, index).map(|at| self.rows[at])
     }
 }

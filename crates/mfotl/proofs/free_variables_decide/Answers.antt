@@ -2,4 +2,4 @@ use Rattle.mfotl.proofs.Freedom.{decided}
 use Rattle.mfotl.proofs.free_variables_decide.Goals as goal
 
 pub returns : goal.returns
-returns c = λ f τ φ w η θ i e t. decided f τ φ w η θ i e t
+returns c = decided

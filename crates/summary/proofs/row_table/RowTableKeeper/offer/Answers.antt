@@ -1,23 +1,21 @@
-use Rattle.std.proofs.Common.{◌<◌, ◌≤◌, vec_len, arith, rules}
-use Rattle.summary.proofs.Tables.{total_is}
+use Rattle.std.proofs.Common.{◌∙◌, arith, rules}
+use Rattle.std.proofs.lemmas.Grind.{common_steps}
+use Rattle.summary.proofs.Tables.{refused, taken, declined, fewer}
 use Rattle.summary.proofs.row_table.RowTableKeeper.offer.Goals as goal
 
-pub returns-then-full : goal.returns-then-full
-returns-then-full c =
-    let full : 512 ≤ vec_len c.args.self.now.rows = search rules in
-    record {
-      others = c.lose.ensures.others;
-      kept = λ _ few. absurd (omega (arith, few, total_is c.args.self.now, full));
-      lost = λ _ _. c.lose.ensures.here;
-      beyond = λ h. absurd (omega (arith, h, c.if-node-ge32.false));
-    }
+pub returns-in_default : goal.returns-in_default
+returns-in_default c = refused c.args.self.now c.args.node c.args.row (grind (arith, common_steps))
 
-pub returns-else-full : goal.returns-else-full
-returns-else-full c =
-    let few : vec_len c.args.self.now.rows < 512 = search rules in
-    record {
-      others = c.keep.ensures.others;
-      kept = λ _ _. c.keep.ensures.here;
-      lost = λ _ full. absurd (omega (arith, full, total_is c.args.self.now, few));
-      beyond = λ h. absurd (omega (arith, h, c.if-node-ge32.false));
-    }
+pub returns-then-fits : goal.returns-then-fits
+returns-then-fits c =
+    taken c.args.self.now c.args.node c.in-Some-Some.count c.args.row (grind (arith, common_steps)) (grind (arith, common_steps)) c.insert.new.self.items (search rules) (search rules)
+
+pub invariant_of-self-else-fits : goal.invariant_of-self-else-fits
+invariant_of-self-else-fits c =
+    let rows = c.drop-drain.new.self.0 in
+    let p = fewer c.args.self.now c.args.node c.in-Some-Some.count c.args.row (grind (arith, common_steps)) (grind (arith, common_steps)) rows.items (search rules) in
+    record { sized = search rules; counted = rows.ok.0 ∙ p.0; few = omega (arith, rows.ok.0, p.1); reserved = search rules }
+
+pub returns-else-fits : goal.returns-else-fits
+returns-else-fits c =
+    declined c.args.self.now c.args.node c.in-Some-Some.count c.args.row (grind (arith, common_steps)) (grind (arith, common_steps)) c.drop-drain.new.self.0.items (search rules) (search rules)

@@ -1,66 +1,48 @@
--- Reading a number digit by digit: what was read and what is left give the whole.
-use Rattle.std.proofs.Common.{◌≡◌, ℕ, ◌+◌, ◌-◌, ◌*◌, ◌<◌, ◌≤◌, Bool, true, false, cond, ◌&&◌, leb, List, [], ◌∷◌, length, get_or, drop, Some, None, Option, refl, ap, ◌∙◌, arith, le-leb, leb-false, leb-true}
-use Rattle.std.proofs.lemmas.List.{drop_more, drop_all}
+-- Reading a number digit by digit.
+use Rattle.std.proofs.Common.{◌≡◌, ℕ, ◌+◌, ◌-◌, ◌*◌, ◌≤◌, Bool, true, false, cond, ◌&&◌, leb, List, [], ◌∷◌, length, Some, None, Option, refl, arith, leb-false, leb-true}
 use borrow.Author.Tests.{lt-leb}
-use Rattle.script.specs.Numbers.{is_digit, digits, value_on, number, one_more}
+use Rattle.std.specs.Prelude.{IfSome}
+use Rattle.std.proofs.lemmas.Grind.{common_steps}
+use Rattle.script.specs.Numbers.{is_digit, digits, numeral, value_on, value, number, one_more}
+use Rattle.script.specs.Reading.{and_then, try_fold}
 
--- what the digits of a word make behind the value n
-unfoldable pub on_from : ℕ → ℕ → List ℕ → Option ℕ
-on_from most n word = cond (digits word && leb (value_on n word) most) (Some (value_on n word)) None
-
+-- more digits make no smaller value
 grows : (n : ℕ) (word : List ℕ) → n ≤ value_on n word
 grows n [] = omega arith
 grows n (b ∷ bs) = omega (arith, grows (n * 10 + (b - 48)) bs)
 
-pub start : (most : ℕ) (word : List ℕ) → (length word ≡ 0 → ⊥) → number most word ≡ on_from most 0 word
-unfolding number on_from
-start most [] h = absurd (h refl)
-start most (b ∷ bs) h = refl
+-- one digit: it is read if it is one and the value stays at most `most`, and so do the digits behind it
+digit_more : (d t e u : Bool) (m v : ℕ) (rest : ℕ → Option ℕ) → (t ≡ true → rest m ≡ cond (e && u) (Some v) None) → (t ≡ false → u ≡ false)
+    → and_then (cond (d && t) (Some m) None) rest ≡ cond ((d && e) && u) (Some v) None
+digit_more true true e u m v rest behind over = behind refl
+digit_more true false true u m v rest behind over = rw (over refl) refl
+digit_more true false false u m v rest behind over = refl
+digit_more false t e u m v rest behind over = refl
 
-pub empty : (most : ℕ) (word : List ℕ) → length word ≡ 0 → None ≡ number most word
+-- what the digits of a word make behind the value n
+on_from : (most n : ℕ) (word : List ℕ) → n ≤ most → try_fold (one_more most) n word ≡ cond (digits word && leb (value_on n word) most) (Some (value_on n word)) None
+on_from most n [] h = grind (arith, common_steps)
+on_from most n (b ∷ bs) h =
+    let m = n * 10 + (b - 48) in
+    digit_more (is_digit b) (leb m most) (digits bs) (leb (value_on m bs) most) m (value_on m bs) (λ k. try_fold (one_more most) k bs)
+    (λ fits. on_from most m bs (leb-true m most fits))
+    (λ over. lt-leb (value_on m bs) most (omega (arith, leb-false m most over, grows m bs)))
+
+pub of_digits : (most : ℕ) (word : List ℕ) → ¬ (length word ≡ 0) → try_fold (one_more most) 0 word ≡ number most word
 unfolding number
-empty most [] h = refl
-empty most (b ∷ bs) h = absurd (omega (arith, h))
+of_digits most [] h = absurd (h refl)
+of_digits most (b ∷ bs) h = on_from most 0 (b ∷ bs) (omega arith)
 
-pub end : (most n : ℕ) → n ≤ most → on_from most n [] ≡ Some n
-unfolding on_from
-end most n h = ap (λ (t : Bool). cond t (Some n) None) (le-leb n most h)
+pub none_of_none : (most : ℕ) (word : List ℕ) → length word ≡ 0 → None ≡ number most word
+unfolding number
+none_of_none most [] h = refl
+none_of_none most (b ∷ bs) h = absurd (omega (arith, h))
 
-both : (d t : Bool) (x m : ℕ) → cond (d && t) (Some x) None ≡ Some m → (d ≡ true) × (t ≡ true) × (x ≡ m)
-both true true x m e = (refl, refl, cc)
-both true false x m e = let z : ◌≡◌ {A = ℕ} 0 1 = cc in absurd (omega arith)
-both false t x m e = let z : ◌≡◌ {A = ℕ} 0 1 = cc in absurd (omega arith)
+within : (d t : Bool) (most n : ℕ) → (t ≡ true → n ≤ most) → IfSome (cond (d && t) (Some n) None) (λ m. m ≤ most)
+within true true most n h = h refl
+within true false most n h = tt
+within false t most n h = tt
 
-pub bounded : (most n b m : ℕ) → one_more most n b ≡ Some m → m ≤ most
-bounded most n b m e =
-    let p = both (is_digit b) (leb (n * 10 + (b - 48)) most) (n * 10 + (b - 48)) m e in
-    omega (arith, leb-true (n * 10 + (b - 48)) most p.1, p.2)
-
-pub step : (most n b m : ℕ) (bs : List ℕ) → one_more most n b ≡ Some m → on_from most n (b ∷ bs) ≡ on_from most m bs
-unfolding on_from
-step most n b m bs e =
-    let p = both (is_digit b) (leb (n * 10 + (b - 48)) most) (n * 10 + (b - 48)) m e in
-    ap (λ (d : Bool). cond ((d && digits bs) && leb (value_on (n * 10 + (b - 48)) bs) most) (Some (value_on (n * 10 + (b - 48)) bs)) None) p.0
-    ∙ ap (λ (k : ℕ). cond (digits bs && leb (value_on k bs) most) (Some (value_on k bs)) None) p.2
-
-over : (d e t u : Bool) (x y : ℕ) → cond (d && t) (Some y) None ≡ None → (t ≡ false → u ≡ false) → cond ((d && e) && u) (Some x) None ≡ None
-over true e true u x y h l = let z : ◌≡◌ {A = ℕ} 0 1 = cc in absurd (omega arith)
-over true true false u x y h l = ap (λ (v : Bool). cond v (Some x) None) (l refl)
-over true false false u x y h l = refl
-over false e t u x y h l = refl
-
-pub stop : (most n b : ℕ) (bs : List ℕ) → one_more most n b ≡ None → on_from most n (b ∷ bs) ≡ None
-unfolding on_from
-stop most n b bs e =
-    over (is_digit b) (digits bs) (leb (n * 10 + (b - 48)) most) (leb (value_on (n * 10 + (b - 48)) bs) most) (value_on (n * 10 + (b - 48)) bs) (n * 10 + (b - 48)) e
-    (λ f. lt-leb (value_on (n * 10 + (b - 48)) bs) most (omega (arith, leb-false (n * 10 + (b - 48)) most f, grows (n * 10 + (b - 48)) bs)))
-
--- the same, by the place in the word
-pub at_step : (most n m : ℕ) (word : List ℕ) (i : ℕ) → i < length word → one_more most n (get_or word i 0) ≡ Some m → on_from most n (drop i word) ≡ on_from most m (drop (i + 1) word)
-at_step most n m word i h e = ap (on_from most n) (drop_more word i 0 h) ∙ step most n (get_or word i 0) m (drop (i + 1) word) e
-
-pub at_stop : (most n : ℕ) (word : List ℕ) (i : ℕ) → i < length word → one_more most n (get_or word i 0) ≡ None → on_from most n (drop i word) ≡ None
-at_stop most n word i h e = ap (on_from most n) (drop_more word i 0 h) ∙ stop most n (get_or word i 0) (drop (i + 1) word) e
-
-pub at_end : (most n : ℕ) (word : List ℕ) (i : ℕ) → length word ≤ i → n ≤ most → on_from most n (drop i word) ≡ Some n
-at_end most n word i h b = ap (on_from most n) (drop_all i word h) ∙ end most n b
+pub bounded : (most : ℕ) (word : List ℕ) → IfSome (number most word) (λ n. n ≤ most)
+unfolding number
+bounded most word = within (numeral word) (leb (value word) most) most (value word) (leb-true (value word) most)

@@ -1,5 +1,5 @@
+pub mod Naming
 mod Counting
-mod Labels
+mod Folding
 mod Parting
-mod Spelling
 pub mod Keeping

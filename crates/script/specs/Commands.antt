@@ -1,20 +1,19 @@
 -- The commands of a script, by the words of a line.
-use Rattle.std.specs.Prelude.{ℕ, Bool, true, false, cond, ◌&&◌, List, [], ◌∷◌, is_some, Some, None, codes, Option, ◌==◌}
+use Rattle.std.specs.Prelude.{ℕ, Bool, true, cond, List, [], ◌∷◌, is_some, Some, None, codes, Option, ◌==◌, slice_get}
+use Rattle.std.specs.List.{list_all}
 use Rattle.std.specs.Str.{bytes_eq}
 use Rattle.script.specs.Facts.{values, fact, query}
+use Rattle.script.specs.Kinds.{journal_kind, keeper_kind}
 use Rattle.script.specs.Nodes.{node_in}
-use Rattle.script.specs.Numbers.{number, labelled}
-use Rattle.script.specs.Reading.{and_then, alone, at, one, two, three}
+use Rattle.script.specs.Numbers.{number, wide, labelled}
+use Rattle.script.specs.Reading.{and_then, alone, one, two, three}
 use Rattle.script.specs.Verbs.{verb}
-use Rattle.script.specs.Words.{words}
+use Rattle.script.specs.Words.{words, optional}
 use Rattle.script.specs.declared.command.Command.{Command}
 use Rattle.script.specs.declared.command.Command.TheVariants as command
-use Rattle.script.specs.declared.command.JournalKind.{JournalKind}
-use Rattle.script.specs.declared.command.JournalKind.TheVariants as kind
-use Rattle.script.specs.declared.command.KeeperKind.{KeeperKind}
-use Rattle.script.specs.declared.command.KeeperKind.TheVariants as keeping
-use Rattle.script.specs.declared.facts.Fact.{Fact}
-use Rattle.script.specs.declared.facts.Values.{Values}
+use Rattle.script.specs.declared.kinds.JournalKind.{JournalKind}
+use Rattle.facts.specs.declared.Fact.{Fact}
+use Rattle.table.specs.declared.arguments.Arguments.{Arguments}
 use Rattle.script.specs.declared.verbs.Verb.{Verb}
 use Rattle.script.specs.declared.verbs.Verb.TheVariants.{Table, Pred, Node, Check, Journal, Keeper, Open, Close, Buffer, Draft, Add, Abandon, Commit, Late, Poll, Polls, Entry, Entries, Rows, Find, Rehearse, End}
 
@@ -36,10 +35,6 @@ pred words =
     and_then (labelled (codes "given=") 255 parts.2) (λ mask.
     Some (command.Pred predicate (record { count = count; given = record { mask = mask } }))))))
 
--- `records` or `packed`
-abbrev pub journal_kind : List ℕ → Option JournalKind
-journal_kind word = cond (bytes_eq word (codes "records")) (Some kind.Records) (cond (bytes_eq word (codes "packed")) (Some kind.Packed) None)
-
 -- a kind of journal, and its units
 abbrev pub sized : List (List ℕ) → Option (JournalKind × ℕ)
 sized words =
@@ -48,26 +43,17 @@ sized words =
     and_then (number 18446744073709551615 parts.1) (λ units.
     Some (k, units))))
 
--- `rows` or `none`
-abbrev pub keeper_kind : List ℕ → Option KeeperKind
-keeper_kind word = cond (bytes_eq word (codes "rows")) (Some keeping.Rows) (cond (bytes_eq word (codes "none")) (Some keeping.None) None)
-
 -- a kind of keeper
 abbrev pub keeper : List (List ℕ) → Option Command
 keeper words = and_then (one words) (λ word. and_then (keeper_kind word) (λ k. Some (command.Keeper k)))
 
 -- S
 abbrev pub draft : List (List ℕ) → Option Command
-draft words = and_then (one words) (λ word. and_then (number 4294967295 word) (λ stamp. Some (command.Draft stamp)))
+draft words = and_then (one words) (λ word. and_then (wide word) (λ stamp. Some (command.Draft stamp)))
 
 -- FACT
 abbrev pub add : List (List ℕ) → Option Command
 add words = and_then (one words) (λ word. and_then (fact word) (λ f. Some (command.Add f)))
-
--- whether the first word is this text, and the words behind it then
-abbrev pub optional : List ℕ → List (List ℕ) → Bool × List (List ℕ)
-optional text [] = (false, [])
-optional text (word ∷ words) = cond (bytes_eq word text) (true, words) (false, word ∷ words)
 
 -- nothing, `joined`, `session`, or both in this order
 abbrev pub layers : List (List ℕ) → Option Command
@@ -77,13 +63,12 @@ layers words =
 
 -- whether each word is a fact
 abbrev pub all_facts : List (List ℕ) → Bool
-all_facts [] = true
-all_facts (word ∷ words) = is_some (fact word) && all_facts words
+all_facts words = list_all (λ word. is_some (fact word)) words
 
 -- nothing, or S FACT ..
 abbrev pub commit : List (List ℕ) → Option Command
 commit [] = Some command.Commit
-commit (word ∷ words) = and_then (number 4294967295 word) (λ stamp. cond (all_facts words) (Some (command.CommitFacts stamp)) None)
+commit (word ∷ words) = and_then (wide word) (λ stamp. cond (all_facts words) (Some (command.CommitFacts stamp)) None)
 
 -- K FACT
 abbrev pub late : List (List ℕ) → Option Command
@@ -94,7 +79,7 @@ late words =
     Some (command.Late position f))))
 
 -- nothing, or `after V,V,..`
-abbrev pub after : List (List ℕ) → Option (Option Values)
+abbrev pub after : List (List ℕ) → Option (Option (Arguments ℕ))
 after [] = Some None
 after (word ∷ words) = cond (bytes_eq word (codes "after")) (and_then (one words) (λ text. and_then (values text) (λ vs. Some (Some vs)))) None
 
@@ -149,7 +134,7 @@ command_on line = command_in (words line)
 abbrev pub fact_in : List (List ℕ) → ℕ → Option Fact
 fact_in [] index = None
 fact_in (word ∷ []) index = None
-fact_in (word ∷ (stamp ∷ facts)) index = and_then (at facts index) fact
+fact_in (word ∷ (stamp ∷ facts)) index = and_then (slice_get facts index) fact
 
 abbrev pub fact_on : List ℕ → ℕ → Option Fact
 fact_on line index = fact_in (words line) index

@@ -2,8 +2,11 @@ pub mod Pieces
 pub mod Words
 pub mod Numbers
 pub mod Reading
+pub mod Items
 pub mod Facts
 pub mod Nodes
+pub mod Keywords
+pub mod Kinds
 pub mod Operators
 pub mod Verbs
 pub mod Commands

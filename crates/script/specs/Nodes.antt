@@ -1,5 +1,5 @@
 -- How the nodes of a table are written.
-use Rattle.std.specs.Prelude.{ℕ, ◌+◌, ◌^◌, cond, List, [], ◌∷◌, Some, None, codes, Option, bit_or, nat_lt, slice_set}
+use Rattle.std.specs.Prelude.{ℕ, ◌^◌, cond, List, [], ◌∷◌, Some, None, codes, Option, bit_or}
 use Rattle.std.specs.Str.{bytes_eq}
 use Rattle.sets.specs.declared.SmallSet.{SmallSet}
 use Rattle.table.specs.declared.node.Interval.{Interval}
@@ -7,11 +7,12 @@ use Rattle.table.specs.declared.node.Node.{Node}
 use Rattle.table.specs.declared.node.Node.TheVariants as node
 use Rattle.table.specs.declared.node.Term.{Term}
 use Rattle.table.specs.declared.node.Term.TheVariants.{Variable, Constant}
-use Rattle.table.specs.declared.node.Terms.{Terms}
-use Rattle.script.specs.Numbers.{number, labelled}
+use Rattle.table.specs.Arguments.{no_arguments}
+use Rattle.script.specs.Items.{with_items}
+use Rattle.script.specs.Numbers.{number, wide, wide_unless, labelled}
 use Rattle.script.specs.Operators.{operator}
 use Rattle.script.specs.Pieces.{pieces}
-use Rattle.script.specs.Reading.{and_then, behind, two, three, alone}
+use Rattle.script.specs.Reading.{and_then, try_fold, behind, two, three, alone}
 use Rattle.script.specs.declared.operators.Operator.{Operator}
 use Rattle.script.specs.declared.operators.Operator.TheVariants.{True, False, Atom, And, Or, Exists, Forall, Timed, Since, Until}
 use Rattle.script.specs.declared.operators.Timed as timing
@@ -20,52 +21,30 @@ use Rattle.script.specs.declared.operators.Timed.TheVariants.{Prev, Once, Hist, 
 -- a variable behind `v`, or else a value
 abbrev pub term_from : Option (List ℕ) → List ℕ → Option Term
 term_from (Some name) word = and_then (number 255 name) (λ n. Some (Variable n))
-term_from None word = and_then (number 4294967295 word) (λ value. Some (Constant value))
+term_from None word = and_then (wide word) (λ value. Some (Constant value))
 
 -- TERM: `vN` with N from 0 to 255, or a value
 abbrev pub term : List ℕ → Option Term
 term word = term_from (behind (codes "v") word) word
 
--- no terms
-abbrev pub no_terms : Terms
-no_terms = record { count = 0; places = Constant 0 ∷ (Constant 0 ∷ (Constant 0 ∷ [])) }
-
--- one term more: the first three are kept, and at most 255 are counted
-abbrev pub one_term_more : Terms → Term → Option Terms
-one_term_more terms item = cond (nat_lt terms.count 255) (Some (record { count = terms.count + 1; places = slice_set terms.places terms.count item })) None
-
--- one word more that is a term
-abbrev pub with_term : Terms → List ℕ → Option Terms
-with_term terms word = and_then (term word) (one_term_more terms)
-
--- words that are terms, behind those before
-abbrev pub with_terms : Terms → List (List ℕ) → Option Terms
-with_terms terms [] = Some terms
-with_terms terms (word ∷ words) = and_then (with_term terms word) (λ more. with_terms more words)
-
 -- one piece more that is a variable from `v0` to `v7`: its bit is set
 abbrev pub with_variable : ℕ → List ℕ → Option ℕ
 with_variable mask piece = and_then (labelled (codes "v") 7 piece) (λ n. Some (bit_or mask (2 ^ n)))
-
--- pieces that are variables, beside those before
-abbrev pub with_variables : ℕ → List (List ℕ) → Option ℕ
-with_variables mask [] = Some mask
-with_variables mask (piece ∷ pieces) = and_then (with_variable mask piece) (λ more. with_variables more pieces)
 
 -- VARS: `-`, or variables that are parted by commas
 abbrev pub variables : List ℕ → Option SmallSet
 variables word =
     cond (bytes_eq word (codes "-")) (Some (record { mask = 0 }))
-    (and_then (with_variables 0 (pieces 44 word)) (λ mask. Some (record { mask = mask })))
+    (and_then (try_fold with_variable 0 (pieces 44 word)) (λ mask. Some (record { mask = mask })))
 
 -- HI: `none`, or a number
 abbrev pub upper : List ℕ → Option (Option ℕ)
-upper word = cond (bytes_eq word (codes "none")) (Some None) (and_then (number 4294967295 word) (λ n. Some (Some n)))
+upper = wide_unless (codes "none")
 
 -- LO HI
 abbrev pub interval_of : List ℕ → List ℕ → Option Interval
 interval_of lower higher =
-    and_then (number 4294967295 lower) (λ lo.
+    and_then (wide lower) (λ lo.
     and_then (upper higher) (λ hi.
     Some (record { lo = lo; hi = hi })))
 
@@ -100,7 +79,7 @@ abbrev pub atom : List (List ℕ) → Option Node
 atom [] = None
 atom (name ∷ words) =
     and_then (number 255 name) (λ predicate.
-    and_then (with_terms no_terms words) (λ terms.
+    and_then (with_items term (no_arguments (Constant 0)) words) (λ terms.
     Some (node.Atom predicate terms)))
 
 -- VARS B

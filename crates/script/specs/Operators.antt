@@ -1,6 +1,7 @@
 -- The words that name an operator.
 use Rattle.std.specs.Prelude.{◌≡◌, ℕ, List, [], ◌∷◌, Some, codes, Option}
-use Rattle.script.specs.Reading.{spelled}
+use Rattle.std.proofs.Common.{rules}
+use Rattle.script.specs.Keywords.{spelled}
 use Rattle.script.specs.declared.operators.Operator.{Operator}
 use Rattle.script.specs.declared.operators.Operator.TheVariants.{True, False, Atom, And, Or, Exists, Forall, Timed, Since, Until}
 use Rattle.script.specs.declared.operators.Timed.TheVariants.{Prev, Once, Hist, Next, Event, Always}
@@ -31,7 +32,7 @@ operators = True ∷ (False ∷ (Atom ∷ (And ∷ (Or ∷ (Exists ∷ (Forall �
 abbrev pub operator : List ℕ → Option Operator
 operator word = spelled spelling operators word
 
--- a word names the operator that it spells, and no other
-pub record Names (word : List ℕ) (r : Option Operator) : Type 0 where
-  pub spelled_so : (o : Operator) → word ≡ spelling o → r ≡ Some o
-  pub spells_it : (o : Operator) → r ≡ Some o → word ≡ spelling o
+-- each operator is named by its spelling
+pub named : (o : Operator) → spelled spelling operators (spelling o) ≡ Some o
+unfolding spelled
+named o = search rules

@@ -1,5 +1,5 @@
 -- Reading one thing after another, and the rest of a word behind a label.
-use Rattle.std.specs.Prelude.{ℕ, ◌-◌, Bool, true, false, cond, List, [], ◌∷◌, Some, None, Option, ◌==◌}
+use Rattle.std.specs.Prelude.{◌≡◌, ℕ, Bool, true, false, cond, List, [], ◌∷◌, length, take, drop, Some, None, MatchOption, Option}
 use Rattle.std.specs.Str.{bytes_eq}
 
 -- what is made of a thing, if it can be read
@@ -7,20 +7,22 @@ abbrev pub and_then : {X Y : Type 0} → Option X → (X → Option Y) → Optio
 and_then None f = None
 and_then (Some x) f = f x
 
+-- the answer, as `view` sees what it holds, is o
+abbrev pub SeenAs : {A B : Type 0} → (A → B) → Option A → Option B → Type 0
+SeenAs view r o = MatchOption r (o ≡ None) (λ x. o ≡ Some (view x))
+
+-- what is made of a list, one thing after another, if each step can be taken
+abbrev pub try_fold : {S X : Type 0} → (S → X → Option S) → S → List X → Option S
+try_fold step s [] = Some s
+try_fold step s (x ∷ xs) = and_then (step s x) (λ t. try_fold step t xs)
+
 -- the rest of a word behind a label that it begins with
 unfoldable pub behind : List ℕ → List ℕ → Option (List ℕ)
-behind [] word = Some word
-behind (c ∷ label) [] = None
-behind (c ∷ label) (b ∷ word) = cond (b == c) (behind label word) None
+behind label word = cond (bytes_eq (take (length label) word) label) (Some (drop (length label) word)) None
 
 abbrev pub is_empty : {X : Type 0} → List X → Bool
 is_empty [] = true
 is_empty (x ∷ xs) = false
-
--- the thing at this index, from 0
-abbrev pub at : {X : Type 0} → List X → ℕ → Option X
-at [] index = None
-at (x ∷ xs) index = cond (index == 0) (Some x) (at xs (index - 1))
 
 -- the one thing of a list of just one
 abbrev pub one : {X : Type 0} → List X → Option X
@@ -37,11 +39,6 @@ two (x ∷ xs) = and_then (one xs) (λ y. Some (x, y))
 abbrev pub three : {X : Type 0} → List X → Option (X × X × X)
 three [] = None
 three (x ∷ xs) = and_then (two xs) (λ p. Some (x, p.0, p.1))
-
--- the first of these things that is spelled as the word
-unfoldable pub spelled : {X : Type 0} → (X → List ℕ) → List X → List ℕ → Option X
-spelled spelling [] word = None
-spelled spelling (x ∷ xs) word = cond (bytes_eq word (spelling x)) (Some x) (spelled spelling xs word)
 
 -- the thing, if no word is left
 abbrev pub alone : {X : Type 0} → X → List (List ℕ) → Option X

@@ -1,6 +1,7 @@
 -- The words that name a command.
 use Rattle.std.specs.Prelude.{◌≡◌, ℕ, List, [], ◌∷◌, Some, codes, Option}
-use Rattle.script.specs.Reading.{spelled}
+use Rattle.std.proofs.Common.{rules}
+use Rattle.script.specs.Keywords.{spelled}
 use Rattle.script.specs.declared.verbs.Verb.{Verb}
 use Rattle.script.specs.declared.verbs.Verb.TheVariants.{Table, Pred, Node, Check, Journal, Keeper, Open, Close, Buffer, Draft, Add, Abandon, Commit, Late, Poll, Polls, Entry, Entries, Rows, Find, Rehearse, End}
 
@@ -37,7 +38,7 @@ verbs = Table ∷ (Pred ∷ (Node ∷ (Check ∷ (Journal ∷ (Keeper ∷ (Open 
 abbrev pub verb : List ℕ → Option Verb
 verb word = spelled spelling verbs word
 
--- a word names the verb that it spells, and no other
-pub record Names (word : List ℕ) (r : Option Verb) : Type 0 where
-  pub spelled_so : (v : Verb) → word ≡ spelling v → r ≡ Some v
-  pub spells_it : (v : Verb) → r ≡ Some v → word ≡ spelling v
+-- each verb is named by its spelling
+pub named : (v : Verb) → spelled spelling verbs (spelling v) ≡ Some v
+unfolding spelled
+named v = search rules

@@ -1,14 +1,19 @@
 //! Reading the nodes of a table.
 ghost use Rattle.std.specs.Prelude.{◌≡◌};
-ghost use Rattle.script.specs.Nodes.{term, one_term_more, with_term, no_terms, with_terms, with_variable, variables, with_variables, upper, interval_of, operands, timed, timed_operands, atom, exists, forall, timed_node, node_of, node_in};
-ghost use Rattle.script.specs.Pieces.{pieces};
+ghost use Rattle.table.specs.Arguments.{no_arguments};
+ghost use Rattle.table.specs.declared.node.Term.TheVariants.{Constant};
+ghost use Rattle.script.specs.Items.{with_items};
+ghost use Rattle.script.specs.Nodes.{term, with_variable, variables, interval_of, operands, timed, timed_operands, atom, exists, forall, timed_node, node_of, node_in};
 ghost use Rattle.script.specs.Numbers.{number};
-ghost use Rattle.script.specs.Reading.{alone};
-ghost use Rattle.script.specs.Words.{remaining};
+ghost use Rattle.script.specs.Pieces.{pieces};
+ghost use Rattle.script.specs.Reading.{try_fold};
+ghost use Rattle.script.specs.Words.{words_left};
 
-use crate::numbers::{behind, is, labelled, small, wide};
+use crate::keywords::Keyword;
+use crate::numbers::{behind, labelled, small, wide, wide_unless};
 use crate::operators::{Operator, Timed};
-use crate::pieces::{Words, cut, placed};
+use crate::pieces::arguments;
+use crate::words::{Words, alone};
 use sets::SmallSet;
 use table::{Interval, Node, Term, Terms};
 
@@ -16,111 +21,49 @@ use table::{Interval, Node, Term, Terms};
 fn term(word: &[u8]) -> Option<Term>
     ensures { result ≡ term word.now }
 {
+    // A match: each side reads a kind of its own.
     match behind(word, b"v") {
-        Some(name) => match small(name, 255) {
-            Some(number) => Some(Term::Variable(number)),
-            None => None,
-        },
-        None => match wide(word) {
-            Some(value) => Some(Term::Constant(value)),
-            None => None,
-        },
-    }
-}
-
-/// These terms and one more, as long as their count fits a byte.
-fn with_term(terms: Terms, item: Term) -> Option<Terms>
-    ensures { result ≡ one_term_more terms item }
-{
-    if terms.count == u8::MAX {
-        return None;
-    }
-    let places = placed(terms.places, terms.count, item);
-    Some(Terms {
-        count: terms.count + 1,
-        places,
-    })
-}
-
-fn with_word(terms: Terms, word: &[u8]) -> Option<Terms>
-    ensures { result ≡ with_term terms word.now }
-{
-    match term(word) {
-        Some(item) => with_term(terms, item),
-        None => None,
+        Some(name) => small(name, 255).map(Term::Variable),
+        None => wide(word).map(Term::Constant),
     }
 }
 
 /// The terms that all these words are.
 fn terms(words: Words) -> Option<Terms>
-    ensures { result ≡ with_terms no_terms (remaining words.entry) }
+    ensures { result ≡ with_items term (no_arguments (Constant 0)) (words_left words.entry) }
 {
-    let mut terms = Terms {
-        count: 0,
-        places: [Term::Constant(0); 3],
-    };
-    let mut left = words;
-    while let Some((word, rest)) = left.first() {
-        terms = with_word(terms, word)?;
-        left = rest;
-    }
-    Some(terms)
+    arguments(words, Term::Constant(0), term)
 }
 
 fn with_variable(mask: u8, piece: &[u8]) -> Option<u8>
     ensures { result ≡ with_variable mask piece.now }
 {
-    match labelled(piece, b"v", 7) {
-        Some(number) => Some(mask | (1 << number)),
-        None => None,
-    }
+    Some(mask | (1 << labelled(piece, b"v", 7)?))
 }
 
 /// The bits of the variables of a text, parted by commas.
 fn mask(text: &[u8]) -> Option<u8>
-    ensures { result ≡ with_variables 0 (pieces 44 text.now) }
+    ensures { result ≡ try_fold with_variable 0 (pieces 44 text.now) }
 {
-    let mut mask = 0;
-    let mut left = Some(text);
-    while let Some(text) = left {
-        let (piece, behind) = cut(text, b',');
-        mask = with_variable(mask, piece)?;
-        left = behind;
-    }
-    Some(mask)
+    text.split(|byte| *byte == b',').try_fold(0, with_variable)
 }
 
 /// The variables of a quantifier: `-` for none, or such as `v0,v3`.
 fn variables(word: &[u8]) -> Option<SmallSet>
     ensures { result ≡ variables word.now }
 {
-    if is(word, b"-") {
-        return Some(SmallSet::from_mask(0));
-    }
-    match mask(word) {
-        Some(mask) => Some(SmallSet::from_mask(mask)),
-        None => None,
-    }
-}
-
-/// The upper end of an interval: a number, or `none`.
-fn upper(word: &[u8]) -> Option<Option<u32>>
-    ensures { result ≡ upper word.now }
-{
-    if is(word, b"none") {
-        return Some(None);
-    }
-    match wide(word) {
-        Some(number) => Some(Some(number)),
-        None => None,
-    }
+    let mask = match word {
+        b"-" => 0,
+        _ => mask(word)?,
+    };
+    Some(SmallSet::from(mask))
 }
 
 fn seconds(lower: &[u8], higher: &[u8]) -> Option<Interval>
     ensures { result ≡ interval_of lower.now higher.now }
 {
     let lo = wide(lower)?;
-    let hi = upper(higher)?;
+    let hi = wide_unless(higher, b"none")?;
     Some(Interval { lo, hi })
 }
 
@@ -128,45 +71,41 @@ fn seconds(lower: &[u8], higher: &[u8]) -> Option<Interval>
 fn child(word: &[u8]) -> Option<usize>
     ensures { result ≡ number 255 word.now }
 {
-    match small(word, 255) {
-        Some(number) => Some(usize::from(number)),
-        None => None,
-    }
+    small(word, 255).map(usize::from)
 }
 
 fn operands(words: Words) -> Option<(usize, usize)>
-    ensures { result ≡ operands (remaining words.entry) }
+    ensures { result ≡ operands (words_left words.entry) }
 {
     let (left, right) = words.two()?;
     Some((child(left)?, child(right)?))
 }
 
 fn timed(words: Words) -> Option<(Interval, usize)>
-    ensures { result ≡ timed (remaining words.entry) }
+    ensures { result ≡ timed (words_left words.entry) }
 {
     let (lower, higher, body) = words.three()?;
     Some((seconds(lower, higher)?, child(body)?))
 }
 
-fn timed_operands(words: Words) -> Option<(Interval, usize, usize)>
-    ensures { result ≡ timed_operands (remaining words.entry) }
+fn timed_operands(mut words: Words) -> Option<(Interval, usize, usize)>
+    ensures { result ≡ timed_operands (words_left words.entry) }
 {
-    let (lower, rest) = words.first()?;
-    let (higher, left, right) = rest.three()?;
+    let lower = words.next()?;
+    let (higher, left, right) = words.three()?;
     Some((seconds(lower, higher)?, child(left)?, child(right)?))
 }
 
-fn atom(words: Words) -> Option<Node>
-    ensures { result ≡ atom (remaining words.entry) }
+fn atom(mut words: Words) -> Option<Node>
+    ensures { result ≡ atom (words_left words.entry) }
 {
-    let (name, rest) = words.first()?;
-    let predicate = small(name, 255)?;
-    let terms = terms(rest)?;
+    let predicate = small(words.next()?, 255)?;
+    let terms = terms(words)?;
     Some(Node::Atom { predicate, terms })
 }
 
 fn exists(words: Words) -> Option<Node>
-    ensures { result ≡ exists (remaining words.entry) }
+    ensures { result ≡ exists (words_left words.entry) }
 {
     let (bound, body) = words.two()?;
     Some(Node::Exists {
@@ -176,7 +115,7 @@ fn exists(words: Words) -> Option<Node>
 }
 
 fn forall(words: Words) -> Option<Node>
-    ensures { result ≡ forall (remaining words.entry) }
+    ensures { result ≡ forall (words_left words.entry) }
 {
     let (bound, left, right) = words.three()?;
     Some(Node::Forall {
@@ -199,58 +138,39 @@ fn timed_node(operator: Timed, interval: Interval, body: usize) -> Node
     }
 }
 
-/// The node, if no word is left.
-fn alone(node: Node, words: Words) -> Option<Node>
-    ensures { result ≡ alone node (remaining words.entry) }
-{
-    if words.is_empty() { Some(node) } else { None }
-}
-
 /// The node of this operator that the words behind it describe.
 fn node_of(operator: Operator, words: Words) -> Option<Node>
-    ensures { result ≡ node_of operator (remaining words.entry) }
+    ensures { result ≡ node_of operator (words_left words.entry) }
 {
+    // A match and no table of readers: each operator has its arm, or this does not compile.
     match operator {
         Operator::True => alone(Node::True, words),
         Operator::False => alone(Node::False, words),
         Operator::Atom => atom(words),
-        Operator::And => {
-            let (left, right) = operands(words)?;
-            Some(Node::And { left, right })
-        }
-        Operator::Or => {
-            let (left, right) = operands(words)?;
-            Some(Node::Or { left, right })
-        }
+        Operator::And => operands(words).map(|(left, right)| Node::And { left, right }),
+        Operator::Or => operands(words).map(|(left, right)| Node::Or { left, right }),
         Operator::Exists => exists(words),
         Operator::Forall => forall(words),
         Operator::Timed(operator) => {
-            let (interval, body) = timed(words)?;
-            Some(timed_node(operator, interval, body))
+            timed(words).map(|(interval, body)| timed_node(operator, interval, body))
         }
-        Operator::Since => {
-            let (interval, left, right) = timed_operands(words)?;
-            Some(Node::Since {
-                interval,
-                left,
-                right,
-            })
-        }
-        Operator::Until => {
-            let (interval, left, right) = timed_operands(words)?;
-            Some(Node::Until {
-                interval,
-                left,
-                right,
-            })
-        }
+        Operator::Since => timed_operands(words).map(|(interval, left, right)| Node::Since {
+            interval,
+            left,
+            right,
+        }),
+        Operator::Until => timed_operands(words).map(|(interval, left, right)| Node::Until {
+            interval,
+            left,
+            right,
+        }),
     }
 }
 
 /// The node that the words describe: an operator, and what belongs to it.
-pub(crate) fn read(words: Words) -> Option<Node>
-    ensures { result ≡ node_in (remaining words.entry) }
+pub(crate) fn read(mut words: Words) -> Option<Node>
+    ensures { result ≡ node_in (words_left words.entry) }
 {
-    let (word, rest) = words.first()?;
-    node_of(Operator::read(word)?, rest)
+    let operator = Operator::read(words.next()?)?;
+    node_of(operator, words)
 }

@@ -1,23 +1,17 @@
 //! Reading a number up to a bound.
-ghost use Rattle.std.specs.Prelude.{◌≡◌, ◌≤◌, IfSome, Some, None, MatchOption};
-ghost use Rattle.std.specs.Str.{bytes_eq};
-ghost use Rattle.script.specs.Numbers.{number, one_more, labelled};
-ghost use Rattle.script.specs.Reading.{behind};
+ghost use Rattle.std.specs.Prelude.{◌≡◌, ◌≤◌, IfSome};
+ghost use Rattle.script.specs.Numbers.{number, wide, wide_unless, one_more, labelled};
+ghost use Rattle.script.specs.Reading.{SeenAs, behind};
 
 /// The value with one digit more behind it, if the byte is a digit and the value stays at most `most`.
 fn one_more(value: u64, byte: u8, most: u64) -> Option<u64>
     ensures { result ≡ one_more most value byte }
 {
-    if byte < b'0' || byte > b'9' {
+    if !byte.is_ascii_digit() {
         return None;
     }
-    // Of a `u64` and a digit this takes less than 68 bits.
-    let more = u128::from(value) * 10 + u128::from(byte - b'0');
-    if more <= u128::from(most) {
-        Some(more as u64)
-    } else {
-        None
-    }
+    let more = value.checked_mul(10)?.checked_add(u64::from(byte - b'0'))?;
+    (more <= most).then_some(more)
 }
 
 /// The number that a word is, if it is one or more digits and at most `most`.
@@ -28,11 +22,8 @@ pub(crate) fn number(word: &[u8], most: u64) -> Option<u64>
     if word.is_empty() {
         return None;
     }
-    let mut value = 0;
-    for byte in word {
-        value = one_more(value, *byte, most)?;
-    }
-    Some(value)
+    word.iter()
+        .try_fold(0, |value, byte| one_more(value, *byte, most))
 }
 
 /// The number that a word is, if it is at most `most`, which fits a byte.
@@ -40,25 +31,32 @@ pub(crate) fn small(word: &[u8], most: u8) -> Option<u8>
     ensures value { result ≡ number most word.now }
     ensures bound { IfSome result (λ n. n ≤ most) }
 {
-    match number(word, u64::from(most)) {
-        Some(n) => Some(n as u8),
-        None => None,
-    }
+    u8::try_from(number(word, u64::from(most))?).ok()
 }
 
+// Beside `small`, and not one function with it: a trait that says which number an `N: TryFrom<u64>` is would be longer.
 /// The number that a word is, if it fits 32 bits: a value, a stamp or an end of an interval.
 pub(crate) fn wide(word: &[u8]) -> Option<u32>
-    ensures { result ≡ number 4294967295 word.now }
+    ensures { result ≡ wide word.now }
 {
-    match number(word, u64::from(u32::MAX)) {
-        Some(n) => Some(n as u32),
-        None => None,
+    u32::try_from(number(word, u64::from(u32::MAX))?).ok()
+}
+
+/// The number that a word is, if it fits 32 bits; a word that is `absent` stands for none.
+pub(crate) fn wide_unless(word: &[u8], absent: &[u8]) -> Option<Option<u32>>
+    ensures { result ≡ wide_unless absent.now word.now }
+{
+    if word == absent {
+        Some(None)
+    } else {
+        wide(word).map(Some)
     }
 }
 
 /// The rest of a word that begins with the label.
+#[tactic(auto, unfolding(crate::specs::Reading::behind))]
 pub(crate) fn behind<'a>(word: &'a [u8], label: &[u8]) -> Option<&'a [u8]>
-    ensures { MatchOption result (behind label.now word.now ≡ None) (λ rest. behind label.now word.now ≡ Some rest.now) }
+    ensures { SeenAs (λ rest. rest.now) result (behind label.now word.now) }
 {
     word.strip_prefix(label)
 }
@@ -68,15 +66,5 @@ pub(crate) fn labelled(word: &[u8], label: &[u8], most: u8) -> Option<u8>
     ensures value { result ≡ labelled label.now most word.now }
     ensures bound { IfSome result (λ n. n ≤ most) }
 {
-    match behind(word, label) {
-        Some(rest) => small(rest, most),
-        None => None,
-    }
-}
-
-/// Whether a word is this text.
-pub(crate) fn is(word: &[u8], text: &[u8]) -> bool
-    ensures { result ≡ bytes_eq word.now text.now }
-{
-    word == text
+    small(behind(word, label)?, most)
 }

@@ -1,9 +1,5 @@
 //! The words that name an operator.
-ghost use Rattle.std.specs.Prelude.{◌≡◌};
-ghost use Rattle.script.specs.Operators.{spelling, operator, Names};
-ghost use Rattle.script.specs.Reading.{spelled};
-
-use crate::numbers::is;
+use crate::keywords::Keyword;
 
 /// An operator over one operand at the positions within an interval.
 #[derive(Clone, Copy)]
@@ -31,28 +27,34 @@ pub(crate) enum Operator {
     Until,
 }
 
-impl Operator {
-    const ALL: [Operator; 15] = [
-        Operator::True,
-        Operator::False,
-        Operator::Atom,
-        Operator::And,
-        Operator::Or,
-        Operator::Exists,
-        Operator::Forall,
-        Operator::Timed(Timed::Prev),
-        Operator::Timed(Timed::Once),
-        Operator::Timed(Timed::Hist),
-        Operator::Timed(Timed::Next),
-        Operator::Timed(Timed::Event),
-        Operator::Timed(Timed::Always),
-        Operator::Since,
-        Operator::Until,
-    ];
+impl Keyword for Operator {
+    ghost use Rattle.script.specs.Operators.{spelling, operators, named};
 
-    fn spelling(self) -> &'static [u8]
-        ensures { result.now ≡ spelling self }
-    {
+    ghost spelling = { spelling };
+
+    ghost all = { operators };
+
+    fn all() -> &'static [Operator] {
+        &[
+            Operator::True,
+            Operator::False,
+            Operator::Atom,
+            Operator::And,
+            Operator::Or,
+            Operator::Exists,
+            Operator::Forall,
+            Operator::Timed(Timed::Prev),
+            Operator::Timed(Timed::Once),
+            Operator::Timed(Timed::Hist),
+            Operator::Timed(Timed::Next),
+            Operator::Timed(Timed::Event),
+            Operator::Timed(Timed::Always),
+            Operator::Since,
+            Operator::Until,
+        ]
+    }
+
+    fn spelling(self) -> &'static [u8] {
         match self {
             Operator::True => b"true",
             Operator::False => b"false",
@@ -72,23 +74,5 @@ impl Operator {
         }
     }
 
-    /// The first of these operators that is spelled so.
-    fn spelled(operators: &[Operator], word: &[u8]) -> Option<Operator>
-        ensures { result ≡ spelled spelling operators.now word.now }
-    {
-        for operator in operators {
-            if is(word, operator.spelling()) {
-                return Some(*operator);
-            }
-        }
-        None
-    }
-
-    /// The operator that a word names.
-    pub(crate) fn read(word: &[u8]) -> Option<Operator>
-        ensures value { result ≡ operator word.now }
-        ensures names { Names word.now result }
-    {
-        Operator::spelled(&Operator::ALL, word)
-    }
+    ghost named = { named };
 }

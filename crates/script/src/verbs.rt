@@ -1,9 +1,5 @@
 //! The words that name a command.
-ghost use Rattle.std.specs.Prelude.{◌≡◌};
-ghost use Rattle.script.specs.Reading.{spelled};
-ghost use Rattle.script.specs.Verbs.{spelling, verb, Names};
-
-use crate::numbers::is;
+use crate::keywords::Keyword;
 
 /// What a command does, as its first word names it.
 #[derive(Clone, Copy)]
@@ -32,35 +28,41 @@ pub(crate) enum Verb {
     End,
 }
 
-impl Verb {
-    const ALL: [Verb; 22] = [
-        Verb::Table,
-        Verb::Pred,
-        Verb::Node,
-        Verb::Check,
-        Verb::Journal,
-        Verb::Keeper,
-        Verb::Open,
-        Verb::Close,
-        Verb::Buffer,
-        Verb::Draft,
-        Verb::Add,
-        Verb::Abandon,
-        Verb::Commit,
-        Verb::Late,
-        Verb::Poll,
-        Verb::Polls,
-        Verb::Entry,
-        Verb::Entries,
-        Verb::Rows,
-        Verb::Find,
-        Verb::Rehearse,
-        Verb::End,
-    ];
+impl Keyword for Verb {
+    ghost use Rattle.script.specs.Verbs.{spelling, verbs, named};
 
-    fn spelling(self) -> &'static [u8]
-        ensures { result.now ≡ spelling self }
-    {
+    ghost spelling = { spelling };
+
+    ghost all = { verbs };
+
+    fn all() -> &'static [Verb] {
+        &[
+            Verb::Table,
+            Verb::Pred,
+            Verb::Node,
+            Verb::Check,
+            Verb::Journal,
+            Verb::Keeper,
+            Verb::Open,
+            Verb::Close,
+            Verb::Buffer,
+            Verb::Draft,
+            Verb::Add,
+            Verb::Abandon,
+            Verb::Commit,
+            Verb::Late,
+            Verb::Poll,
+            Verb::Polls,
+            Verb::Entry,
+            Verb::Entries,
+            Verb::Rows,
+            Verb::Find,
+            Verb::Rehearse,
+            Verb::End,
+        ]
+    }
+
+    fn spelling(self) -> &'static [u8] {
         match self {
             Verb::Table => b"table",
             Verb::Pred => b"pred",
@@ -87,23 +89,5 @@ impl Verb {
         }
     }
 
-    /// The first of these verbs that is spelled so.
-    fn spelled(verbs: &[Verb], word: &[u8]) -> Option<Verb>
-        ensures { result ≡ spelled spelling verbs.now word.now }
-    {
-        for verb in verbs {
-            if is(word, verb.spelling()) {
-                return Some(*verb);
-            }
-        }
-        None
-    }
-
-    /// The verb that a word names.
-    pub(crate) fn read(word: &[u8]) -> Option<Verb>
-        ensures value { result ≡ verb word.now }
-        ensures names { Names word.now result }
-    {
-        Verb::spelled(&Verb::ALL, word)
-    }
+    ghost named = { named };
 }

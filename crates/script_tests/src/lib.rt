@@ -4,7 +4,7 @@
 #[cfg(test)]
 mod tests {
     use script::{Command, Fact};
-    use std::test::Fail;
+    use table::Arguments;
 
     const GOOD: [&str; 40] = [
         "table",
@@ -126,27 +126,31 @@ mod tests {
         }
     }
 
-    fn added(line: &str) -> Option<Fact> {
-        match script::read(line.as_bytes()) {
-            Some(Command::Add(fact)) => Some(fact),
-            _ => None,
-        }
+    #[test]
+    fn a_fact_keeps_its_count_and_first_three_values(rt: HostRuntime) {
+        let values = Arguments {
+            count: 4,
+            first: [1, 2, 3],
+        };
+        let fact = Fact {
+            predicate: 7,
+            values,
+        };
+        assert_eq!(rt; script::read(b"add p7(1,2,3,4)"), Some(Command::Add(fact)));
     }
 
     #[test]
-    fn a_fact_keeps_its_count_and_first_three_values(rt: HostRuntime) -> Result<(), Fail> {
-        let fact = added("add p7(1,2,3,4)").ok_or("no fact")?;
-        assert!(rt; fact.predicate == 7 && fact.count == 4);
-        assert!(rt; fact.values[0] == 1 && fact.values[1] == 2 && fact.values[2] == 3);
-        Ok(())
-    }
-
-    #[test]
-    fn facts_of_a_line_are_numbered_from_0(rt: HostRuntime) -> Result<(), Fail> {
-        let fact = script::fact_at(b"commit 5 p3(5,7) p4(8)", 1).ok_or("no fact")?;
-        assert!(rt; fact.predicate == 4 && fact.count == 1 && fact.values[0] == 8);
+    fn facts_of_a_line_are_numbered_from_0(rt: HostRuntime) {
+        let values = Arguments {
+            count: 1,
+            first: [8, 0, 0],
+        };
+        let fact = Fact {
+            predicate: 4,
+            values,
+        };
+        assert_eq!(rt; script::fact_at(b"commit 5 p3(5,7) p4(8)", 1), Some(fact));
         assert!(rt; script::fact_at(b"commit 5 p3(5,7) p4(8)", 2).is_none());
-        Ok(())
     }
 
     #[test]

@@ -1,18 +1,17 @@
-use Rattle.std.proofs.Common.{get_or, sym, ◌∙◌, arith, true-eqb, false-eqb}
-use Rattle.script.proofs.Counting.{start, empty, bounded, at_step, at_stop, at_end}
+use Rattle.std.proofs.Common.{rules, ◌∙◌, true-eqb, false-eqb}
+use Rattle.std.proofs.lemmas.Iterator.{YieldsList-from_slice}
+use Rattle.script.specs.Numbers.{one_more}
+use Rattle.script.proofs.Counting.{of_digits, none_of_none, bounded}
+use Rattle.script.proofs.Folding.{try_fold_is}
 use Rattle.script.proofs.numbers.number.Goals as goal
 
-pub returns-then-is_empty : goal.returns-then-is_empty
-returns-then-is_empty c = record { value = empty _ _ (true-eqb _ _ c.if-is_empty.ensures); bound = tt }
+pub returns-then-is_empty-clause-value : goal.returns-then-is_empty-clause-value
+returns-then-is_empty-clause-value c = none_of_none _ _ (true-eqb _ _ c.if-is_empty.ensures)
 
-pub loop-byte-init : goal.loop-byte-init
-loop-byte-init c = (start _ _ (false-eqb _ _ c.if-is_empty.ensures), omega arith)
+pub returns-clause-value : goal.returns-clause-value
+returns-clause-value c =
+    try_fold_is _ (one_more c.args.most) c.try_fold.result c.try_fold.ensures.ran (YieldsList-from_slice c.args.word.now cc) (λ b x v q k. search rules)
+    ∙ of_digits c.args.most c.args.word.now (false-eqb _ _ c.if-is_empty.ensures)
 
-pub returns-in_err-value : goal.returns-in_err-value
-returns-in_err-value c = rw c.from_residual.ensures (record { value = sym (c.loop-byte.invariant.0 ∙ at_stop _ _ _ _ c.loop-byte-test.true (sym c.in_err-value.ensures)); bound = tt })
-
-pub loop-byte-preserved : goal.loop-byte-preserved
-loop-byte-preserved c = (c.loop-byte.invariant.0 ∙ at_step _ _ _ _ _ c.loop-byte-test.true (sym c.in_ok-value.ensures), bounded c.args.most c.loop-byte.value (get_or c.args.word.now c.loop-byte.byte-index 0) _ (sym c.in_ok-value.ensures))
-
-pub returns : goal.returns
-returns c = record { value = sym (c.loop-byte.invariant.0 ∙ at_end _ _ _ _ c.loop-byte-test.false c.loop-byte.invariant.1); bound = c.loop-byte.invariant.1 }
+pub returns-clause-bound : goal.returns-clause-bound
+returns-clause-bound c = rw (returns-clause-value c) (bounded c.args.most c.args.word.now)

@@ -1,5 +1,0 @@
-use Rattle.script.proofs.Keeping.{lists_kept}
-use Rattle.script.proofs.facts.lists_stand.Goals as goal
-
-pub returns : goal.returns
-returns c = lists_kept

@@ -7,6 +7,7 @@ use packed::Packed;
 use record_table::RecordTable;
 use std::env;
 use std::time::{Duration, Instant};
+use table::Arguments;
 
 /// The finds between two looks at the clock.
 const ROUND: usize = 1000;
@@ -19,8 +20,10 @@ fn fill<J: Journal>(journal: &mut J) {
     for stamp in 0..POSITIONS {
         let fact = Fact {
             predicate: 3,
-            count: 2,
-            values: [stamp, 7, 0],
+            values: Arguments {
+                count: 2,
+                first: [stamp, 7, 0],
+            },
         };
         if journal.commit(stamp, &[fact]).is_err() {
             return;
@@ -28,64 +31,62 @@ fn fill<J: Journal>(journal: &mut J) {
     }
 }
 
-/// A find at each of these positions: how many were answered with a tuple.
-fn find_each<J: Journal>(journal: &J, positions: &[usize]) -> u64 {
-    let query = Query {
-        predicate: 3,
-        count: 2,
-        given: [None, Some(7), None],
-    };
-    let mut found: u64 = 0;
-    for position in positions {
-        if let Ok(Some(_)) = journal.find(*position, &query, None) {
-            found = found.saturating_add(1);
+/// A journal whose finds are timed.
+#[derive(Drop)]
+struct Bench<'a, J: Journal> {
+    rt: &'a HostRuntime,
+    journal: &'a J,
+}
+
+impl<J: Journal> Bench<'_, J> {
+    /// A find at each of these positions: how many were answered with a tuple.
+    fn find_each(&self, positions: &[usize]) -> usize {
+        let query = Query {
+            predicate: 3,
+            given: Arguments {
+                count: 2,
+                first: [None, Some(7), None],
+            },
+        };
+        positions
+            .iter()
+            .filter(|position| matches!(self.journal.find(**position, &query, None), Ok(Some(_))))
+            .count()
+    }
+
+    /// Finds for a second at these positions, over and over.
+    fn time(&self, what: &str, positions: &[usize]) -> anyhow::Result<()> {
+        let start = Instant::now(self.rt)?;
+        let mut finds: usize = 0;
+        let mut found: usize = 0;
+        for _ in 0..1_000_000 {
+            found = found.saturating_add(self.find_each(positions));
+            finds = finds.saturating_add(ROUND);
+            if start.elapsed(self.rt)? >= Duration::from_secs(1) {
+                break;
+            }
         }
+        let nanos = start.elapsed(self.rt)?.as_nanos() / (finds as u128).max(1);
+        println!(self.rt; "  {what}: {nanos} ns a find ({found} of {finds} found)")?;
+        Ok(())
     }
-    found
-}
 
-/// Finds for a second at these positions, over and over.
-fn time_finds<J: Journal>(
-    rt: &HostRuntime,
-    journal: &J,
-    what: &str,
-    positions: &[usize],
-) -> anyhow::Result<()> {
-    let start = Instant::now(rt)?;
-    let mut finds: u64 = 0;
-    let mut found: u64 = 0;
-    for _ in 0..1_000_000 {
-        found = found.saturating_add(find_each(journal, positions));
-        finds = finds.saturating_add(ROUND as u64);
-        if start.elapsed(rt)? >= Duration::from_secs(1) {
-            break;
+    /// Finds at one position. It is read from memory each time, so that no find is left out as a repetition.
+    fn time_at(&self, what: &str, position: usize) -> anyhow::Result<()> {
+        let positions = vec![in self.rt.alloc(); position; ROUND]?;
+        self.time(what, positions.as_slice())
+    }
+
+    /// Finds at positions all over the journal, which the processor can't foresee.
+    fn time_scattered(&self) -> anyhow::Result<()> {
+        let mut positions = vec![in self.rt.alloc(); 0usize; ROUND]?;
+        let mut number: u32 = 1;
+        for position in positions.as_mut_slice() {
+            number = number.wrapping_mul(1_664_525).wrapping_add(1_013_904_223);
+            *position = (number / 65_536) as usize % self.journal.shown().max(1);
         }
+        self.time("scattered", positions.as_slice())
     }
-    let nanos = start.elapsed(rt)?.as_nanos() / u128::from(finds.max(1));
-    println!(rt; "  {what}: {nanos} ns a find ({found} of {finds} found)")?;
-    Ok(())
-}
-
-/// Finds at one position. It is read from memory each time, so that no find is left out as a repetition.
-fn time_at<J: Journal>(
-    rt: &HostRuntime,
-    journal: &J,
-    what: &str,
-    position: usize,
-) -> anyhow::Result<()> {
-    let positions = vec![in rt.alloc(); position; ROUND]?;
-    time_finds(rt, journal, what, positions.as_slice())
-}
-
-/// Finds at positions all over the journal, which the processor can't foresee.
-fn time_scattered<J: Journal>(rt: &HostRuntime, journal: &J) -> anyhow::Result<()> {
-    let mut positions = vec![in rt.alloc(); 0usize; ROUND]?;
-    let mut number: u32 = 1;
-    for position in positions.as_mut_slice() {
-        number = number.wrapping_mul(1_664_525).wrapping_add(1_013_904_223);
-        *position = (number / 65_536) as usize % journal.shown().max(1);
-    }
-    time_finds(rt, journal, "scattered", positions.as_slice())
 }
 
 fn time_journal<J: Journal>(rt: &HostRuntime, name: &str, journal: &mut J) -> anyhow::Result<()> {
@@ -93,10 +94,11 @@ fn time_journal<J: Journal>(rt: &HostRuntime, name: &str, journal: &mut J) -> an
     let shown = journal.shown();
     let free = journal.free();
     println!(rt; "{name}: {shown} positions of one fact, {free} units free")?;
-    time_at(rt, journal, "first position", 0)?;
-    time_at(rt, journal, "middle position", shown / 2)?;
-    time_at(rt, journal, "last position", shown.saturating_sub(1))?;
-    time_scattered(rt, journal)
+    let bench = Bench { rt, journal };
+    bench.time_at("first position", 0)?;
+    bench.time_at("middle position", shown / 2)?;
+    bench.time_at("last position", shown.saturating_sub(1))?;
+    bench.time_scattered()
 }
 
 // With no argument nothing is timed, so that the run of the gate ends at once.

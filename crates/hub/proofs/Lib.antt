@@ -1,2 +1,1 @@
-mod Choosing
 mod Spaces

@@ -1,5 +1,6 @@
 -- What each command does to the hub, and what it answers.
-use Rattle.std.specs.Prelude.{◌≡◌, ℕ, zero, suc, ◌<◌, ◌≤◌, Bool, cond, List, [], ◌∷◌, ◌++◌, length, replicate, Some, None, vec_items, Option, slice_set}
+use Rattle.std.specs.Prelude.{◌≡◌, ℕ, ◌<◌, ◌≤◌, Bool, filter, List, [], ◌∷◌, ◌++◌, length, replicate, Some, None, vec_items, Option, slice_set}
+use Rattle.std.specs.List.{range_with_len}
 use Rattle.refusal.specs.Causes.{refusal_at}
 use Rattle.refusal.specs.declared.Cause.TheVariants.{OverLimit}
 use Rattle.policy.specs.declared.Policy.{Policy}
@@ -32,12 +33,7 @@ abbrev pub DeclaredIn : ℕ → Declaration → Option Table → Answer → Opti
 DeclaredIn p d None a u = (a ≡ answer.NothingToDo) × (u ≡ None)
 DeclaredIn p d (Some t) (answer.Predicate q) (Some u) = (p ≤ 63) × (q ≡ p) × (u.declarations ≡ slice_set t.declarations p (Some d)) × (u.nodes ≡ t.nodes)
 DeclaredIn p d (Some t) (answer.Refused r) (Some u) = (63 < p) × (r ≡ refusal_at OverLimit 0) × (u.declarations ≡ t.declarations) × (u.nodes ≡ t.nodes)
-DeclaredIn p d (Some t) answer.EmptyTable u = ⊥
-DeclaredIn p d (Some t) (answer.Node n) u = ⊥
-DeclaredIn p d (Some t) (answer.Accepted w c) u = ⊥
-DeclaredIn p d (Some t) answer.NothingToDo u = ⊥
-DeclaredIn p d (Some t) (answer.Predicate q) None = ⊥
-DeclaredIn p d (Some t) (answer.Refused r) None = ⊥
+DeclaredIn p d (Some t) a u = ⊥
 
 pub record Declared (p : ℕ) (d : Declaration) (before : Hub) (a : Answer) (after : Hub) : Type 0 where
   pub declared : DeclaredIn p d before.table a after.table
@@ -53,18 +49,13 @@ pub record Appended (n : Node) (before : Hub) (a : Answer) (after : Hub) : Type 
   pub appended : AppendedIn n before.table a after.table
   pub kept : after.policy ≡ before.policy
 
--- the numbers below n that pass a test, in order
-unfoldable pub chosen : (ℕ → Bool) → ℕ → List ℕ
-chosen test zero = []
-chosen test (suc n) = chosen test n ++ cond (test n) (n ∷ []) []
-
 -- whether a node of a policy keeps rows
 abbrev pub keeps : Policy → ℕ → Bool
 keeps p n = cached (declarations_of p) (formula_at (nodes_of p) n)
 
 -- the nodes of a policy that keep rows, in order
 abbrev pub cached_in : Policy → List ℕ
-cached_in p = chosen (keeps p) (length (nodes_of p))
+cached_in p = filter (keeps p) (range_with_len 0 (length (nodes_of p)))
 
 -- a policy was made of the table: its wait and its cached nodes are told
 pub record Told (t : Table) (seconds : ℕ) (numbers : List ℕ) (p : Policy) : Type 0 where
@@ -77,13 +68,9 @@ pub record Told (t : Table) (seconds : ℕ) (numbers : List ℕ) (p : Policy) : 
 -- the hub has a new policy where the table was accepted, and else the one from before
 abbrev pub CheckedIn : Option Table → Answer → Option Policy → Option Policy → Type 0
 CheckedIn None a before after = (a ≡ answer.NothingToDo) × (after ≡ before)
-CheckedIn (Some t) (answer.Accepted w c) before None = ⊥
 CheckedIn (Some t) (answer.Accepted w c) before (Some p) = Told t w (vec_items c) p
 CheckedIn (Some t) (answer.Refused r) before after = (refusal_of t.declarations (vec_items t.nodes) ≡ Some r) × (after ≡ before)
-CheckedIn (Some t) answer.EmptyTable before after = ⊥
-CheckedIn (Some t) (answer.Predicate q) before after = ⊥
-CheckedIn (Some t) (answer.Node n) before after = ⊥
-CheckedIn (Some t) answer.NothingToDo before after = ⊥
+CheckedIn (Some t) a before after = ⊥
 
 pub record Checked (before : Hub) (a : Answer) (after : Hub) : Type 0 where
   pub checked : CheckedIn before.table a before.policy after.policy
@@ -100,22 +87,4 @@ Carried command.Table before a after = Begun before a after
 Carried (command.Pred p d) before a after = Declared p d before a after
 Carried (command.Node n) before a after = Appended n before a after
 Carried command.Check before a after = Checked before a after
-Carried (command.Journal k u) before a after = Idle before a after
-Carried (command.Keeper k) before a after = Idle before a after
-Carried (command.Open j s) before a after = Idle before a after
-Carried command.Close before a after = Idle before a after
-Carried (command.Buffer n) before a after = Idle before a after
-Carried (command.Draft s) before a after = Idle before a after
-Carried (command.Add f) before a after = Idle before a after
-Carried command.Abandon before a after = Idle before a after
-Carried command.Commit before a after = Idle before a after
-Carried (command.CommitFacts s) before a after = Idle before a after
-Carried (command.Late k f) before a after = Idle before a after
-Carried command.Poll before a after = Idle before a after
-Carried command.Polls before a after = Idle before a after
-Carried (command.Entry k) before a after = Idle before a after
-Carried command.Entries before a after = Idle before a after
-Carried (command.Rows n) before a after = Idle before a after
-Carried (command.Find k q v) before a after = Idle before a after
-Carried (command.Rehearse k u) before a after = Idle before a after
-Carried command.End before a after = Idle before a after
+Carried c before a after = Idle before a after

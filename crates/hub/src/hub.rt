@@ -55,6 +55,7 @@ impl Hub {
         let Some(table) = &mut self.table else {
             return Answer::NothingToDo;
         };
+        // A match and no `?`: here a refusal is an answer.
         match table.declare(predicate, declaration) {
             Ok(()) => Answer::Predicate(predicate),
             Err(refusal) => Answer::Refused(refusal),
@@ -78,6 +79,7 @@ impl Hub {
         let Some(table) = &self.table else {
             return Ok(Answer::NothingToDo);
         };
+        // A match and no `?`: here a refusal is an answer.
         match policy::check(table.copy(heap)?) {
             Ok(policy) => {
                 let wait = policy.wait();
@@ -94,11 +96,7 @@ impl Hub {
 fn cached_nodes(heap: Global, policy: &Policy) -> Result<Vec<usize>, AllocError>
     ensures { IfOk result (λ v. v.items ≡ cached_in policy.now) }
 {
-    let mut cached = Vec::new(heap);
-    for node in 0..policy.node_count() {
-        if policy.is_cached(node) {
-            cached.push(node)?;
-        }
-    }
-    Ok(cached)
+    (0..policy.node_count())
+        .filter(|node| policy.is_cached(*node))
+        .collect(heap)
 }

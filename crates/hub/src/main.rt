@@ -12,11 +12,10 @@ use std::process::ExitCode;
 fn main(rt: HostRuntime) -> anyhow::Result<ExitCode> {
     let heap = rt.alloc();
     let mut hub = Hub::new();
-    let mut number = 0u64;
-    for line in BufReader::new(heap, rt.stdin())?.split(heap, b'\n') {
+    let lines = BufReader::new(heap, rt.stdin())?.split(heap, b'\n');
+    for (number, line) in (1u64..).zip(lines) {
         let line = line?;
         let line = line.as_slice();
-        number = number.saturating_add(1);
         if script::is_passed_over(line) {
             continue;
         }

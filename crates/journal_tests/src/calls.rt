@@ -1,10 +1,9 @@
-//! Single calls of a journal, and what is expected of them.
+//! Single calls of a journal under test, and what is expected of them.
 use facts::{Fact, FactSource, Query, Tuple};
 use journal::{Journal, Stamp};
 use refusal::Refusal;
 use std::process::Abort;
-use std::test::Fail;
-use table::Value;
+use table::{Arguments, Value};
 
 /// The units of a mark, and of a fact by its count of arguments.
 #[derive(Clone, Copy)]
@@ -13,251 +12,170 @@ pub(crate) struct Costs {
     pub(crate) fact: [usize; 4],
 }
 
-/// The units of some marks, and of some facts of each count.
-pub(crate) fn units(costs: &Costs, marks: usize, facts: [usize; 4]) -> usize {
-    let mut sum = costs.mark.saturating_mul(marks);
-    for count in 0..4 {
-        sum = sum.saturating_add(costs.fact[count].saturating_mul(facts[count]));
+impl Costs {
+    /// The units of some marks, and of some facts of each count.
+    pub(crate) fn units(&self, marks: usize, facts: [usize; 4]) -> usize {
+        let of_marks = self.mark.saturating_mul(marks);
+        self.fact
+            .iter()
+            .zip(facts)
+            .fold(of_marks, |sum, (cost, count)| {
+                sum.saturating_add(cost.saturating_mul(count))
+            })
     }
-    sum
-}
 
-fn fact_units(costs: &Costs, fact: &Fact) -> usize {
-    costs.fact[usize::from(fact.count.min(3))]
-}
-
-fn position_units(costs: &Costs, facts: &[Fact]) -> usize {
-    let mut sum = costs.mark;
-    for fact in facts {
-        sum = sum.saturating_add(fact_units(costs, fact));
+    fn of_fact(&self, fact: &Fact) -> usize {
+        self.fact[usize::from(fact.values.count.min(3))]
     }
-    sum
+
+    fn of_position(&self, facts: &[Fact]) -> usize {
+        facts.iter().fold(self.mark, |sum, fact| {
+            sum.saturating_add(self.of_fact(fact))
+        })
+    }
 }
 
-pub(crate) fn fact(predicate: u8, count: u8, values: [Value; 3]) -> Fact {
+/// A journal that the course is run on. It shows nothing at first.
+#[derive(Clone, Copy)]
+pub(crate) struct Case {
+    pub(crate) costs: Costs,
+    /// The least stamp of the first commit.
+    pub(crate) next: u64,
+    /// Whether the predicates from 32 up are those of the calculated source.
+    pub(crate) calculated: bool,
+    /// Whether one unit is lacking for the whole course.
+    pub(crate) short: bool,
+}
+
+// `fact` and `query` stay two: they build two types.
+pub(crate) fn fact(predicate: u8, count: u8, first: [Value; 3]) -> Fact {
     Fact {
         predicate,
-        count,
-        values,
+        values: Arguments { count, first },
     }
 }
 
-pub(crate) fn query(predicate: u8, count: u8, given: [Option<Value>; 3]) -> Query {
+pub(crate) fn query(predicate: u8, count: u8, first: [Option<Value>; 3]) -> Query {
     Query {
         predicate,
-        count,
-        given,
+        given: Arguments { count, first },
     }
 }
 
-/// The positions shown, the least next stamp and the free units.
-pub(crate) fn check_state<J: Journal>(
-    rt: &impl Abort,
-    j: &J,
-    shown: usize,
-    next: u64,
-    free: usize,
-) -> Result<(), Fail> {
-    assert_eq!(rt; j.shown(), shown, "shown");
-    assert_eq!(rt; j.least_next_stamp(), next, "least next stamp");
-    assert_eq!(rt; j.free(), free, "free");
-    Ok(())
+/// A journal under test, and what is known of it before. A failed assertion stops `rt`.
+#[derive(Drop)]
+pub(crate) struct Trial<'a, A: Abort, J: Journal> {
+    pub(crate) rt: &'a A,
+    pub(crate) journal: J,
+    pub(crate) case: Case,
 }
 
-/// A commit that is taken as the position `shown`, and paid to the unit.
-pub(crate) fn commits<J: Journal>(
-    rt: &impl Abort,
-    j: &mut J,
-    costs: &Costs,
-    shown: usize,
-    stamp: Stamp,
-    facts: &[Fact],
-) -> Result<(), Fail> {
-    assert_eq!(rt; j.shown(), shown);
-    assert_eq!(rt; j.stamp(shown), None);
-    let free = j.free();
-    assert!(rt; j.commit(stamp, facts).is_ok(), "commit refused");
-    let left = j.free();
-    assert_eq!(rt;
-        left.saturating_add(position_units(costs, facts)),
-        free,
-        "units of a position"
-    );
-    check_state(
-        rt,
-        j,
-        shown.saturating_add(1),
-        u64::from(stamp).saturating_add(1),
-        left,
-    )?;
-    assert_eq!(rt; j.stamp(shown), Some(stamp));
-    assert_eq!(rt; j.stamp(shown.saturating_add(1)), None);
-    Ok(())
-}
+impl<A: Abort, J: Journal> Trial<'_, A, J> {
+    /// The positions shown, the least next stamp and the free units.
+    pub(crate) fn check_state(&self, shown: usize, next: u64, free: usize) {
+        assert_eq!(self.rt; self.journal.shown(), shown, "shown");
+        assert_eq!(self.rt; self.journal.least_next_stamp(), next, "least next stamp");
+        assert_eq!(self.rt; self.journal.free(), free, "free");
+    }
 
-/// A late fact that is taken, and paid to the unit.
-pub(crate) fn adds<J: Journal>(
-    rt: &impl Abort,
-    j: &mut J,
-    costs: &Costs,
-    position: usize,
-    fact: Fact,
-) -> Result<(), Fail> {
-    let shown = j.shown();
-    let next = j.least_next_stamp();
-    let free = j.free();
-    assert!(rt; j.late(position, fact).is_ok(), "late refused");
-    let left = j.free();
-    assert_eq!(rt;
-        left.saturating_add(fact_units(costs, &fact)),
-        free,
-        "units of a fact"
-    );
-    check_state(rt, j, shown, next, left)
-}
+    /// A commit that is taken as the position `shown`, and paid to the unit.
+    pub(crate) fn commits(&mut self, shown: usize, stamp: Stamp, facts: &[Fact]) {
+        assert_eq!(self.rt; self.journal.shown(), shown);
+        assert_eq!(self.rt; self.journal.stamp(shown), None);
+        let free = self.journal.free();
+        assert_eq!(self.rt; self.journal.commit(stamp, facts), Ok(()));
+        let left = self.journal.free();
+        let paid = self.case.costs.of_position(facts);
+        assert_eq!(self.rt; left.saturating_add(paid), free, "units of a position");
+        let next = u64::from(stamp).saturating_add(1);
+        self.check_state(shown.saturating_add(1), next, left);
+        assert_eq!(self.rt; self.journal.stamp(shown), Some(stamp));
+        assert_eq!(self.rt; self.journal.stamp(shown.saturating_add(1)), None);
+    }
 
-fn check_refusal(
-    rt: &impl Abort,
-    answer: Result<(), Refusal>,
-    number: u8,
-    place: usize,
-) -> Result<(), Fail> {
-    match answer {
-        Ok(()) => Err(Fail::new("not refused")),
-        Err(refusal) => {
-            assert_eq!(rt; refusal.cause.number(), number, "cause");
-            assert_eq!(rt; refusal.place, place, "place");
-            Ok(())
+    /// A late fact that is taken, and paid to the unit.
+    pub(crate) fn adds(&mut self, position: usize, fact: Fact) {
+        let shown = self.journal.shown();
+        let next = self.journal.least_next_stamp();
+        let free = self.journal.free();
+        assert_eq!(self.rt; self.journal.late(position, fact), Ok(()));
+        let left = self.journal.free();
+        let paid = self.case.costs.of_fact(&fact);
+        assert_eq!(self.rt; left.saturating_add(paid), free, "units of a fact");
+        self.check_state(shown, next, left);
+    }
+
+    /// A call that is refused so, and changes nothing that can be asked without a find.
+    fn refuses<F: FnOnce(&mut J) -> Result<(), Refusal>>(&mut self, call: F, wanted: Refusal)
+        requires { F.IsAlwaysCallable call }
+    {
+        let shown = self.journal.shown();
+        let next = self.journal.least_next_stamp();
+        let free = self.journal.free();
+        assert_eq!(self.rt; call(&mut self.journal), Err(wanted));
+        self.check_state(shown, next, free);
+    }
+
+    pub(crate) fn refuses_commit(&mut self, stamp: Stamp, facts: &[Fact], wanted: Refusal) {
+        self.refuses(|j| j.commit(stamp, facts), wanted);
+    }
+
+    pub(crate) fn refuses_late(&mut self, position: usize, fact: Fact, wanted: Refusal) {
+        self.refuses(|j| j.late(position, fact), wanted);
+    }
+
+    /// A find that is refused so, at a position shown and beyond all.
+    pub(crate) fn refuses_find(&self, query: &Query, wanted: Refusal) {
+        for position in [0, 1_000_000, usize::MAX] {
+            assert_eq!(self.rt; self.journal.find(position, query, None), Err(wanted));
         }
     }
-}
 
-/// A commit that is refused and changes nothing that can be asked without a find.
-pub(crate) fn refuses_commit<J: Journal>(
-    rt: &impl Abort,
-    j: &mut J,
-    stamp: Stamp,
-    facts: &[Fact],
-    number: u8,
-    place: usize,
-) -> Result<(), Fail> {
-    let shown = j.shown();
-    let next = j.least_next_stamp();
-    let free = j.free();
-    check_refusal(rt, j.commit(stamp, facts), number, place)?;
-    check_state(rt, j, shown, next, free)
-}
+    /// What a find answers, and that what stands behind the count doesn't matter.
+    pub(crate) fn finds(
+        &self,
+        position: usize,
+        query: &Query,
+        after: Option<Tuple>,
+        wanted: Option<Tuple>,
+    ) {
+        assert_eq!(self.rt; self.journal.find(position, query, after), Ok(wanted));
+        let count = query.given.count;
+        let noisy = query_with_noise(query);
+        let noise = [7, 4294967295, if count < 2 { 9 } else { 4294967295 }];
+        let after = after.map(|tuple| behind(count, tuple, noise));
+        assert_eq!(self.rt;
+            self.journal.find(position, &noisy, after),
+            Ok(wanted),
+            "what stands behind the count matters"
+        );
+    }
 
-/// A late fact that is refused and changes nothing that can be asked without a find.
-pub(crate) fn refuses_late<J: Journal>(
-    rt: &impl Abort,
-    j: &mut J,
-    position: usize,
-    fact: Fact,
-    number: u8,
-    place: usize,
-) -> Result<(), Fail> {
-    let shown = j.shown();
-    let next = j.least_next_stamp();
-    let free = j.free();
-    check_refusal(rt, j.late(position, fact), number, place)?;
-    check_state(rt, j, shown, next, free)
-}
-
-/// A find that is refused, at a position shown and beyond all.
-pub(crate) fn refuses_find<J: Journal>(
-    rt: &impl Abort,
-    j: &J,
-    query: &Query,
-    number: u8,
-    place: usize,
-) -> Result<(), Fail> {
-    for position in [0, 1_000_000, usize::MAX] {
-        match j.find(position, query, None) {
-            Ok(_) => return Err(Fail::new("find not refused")),
-            Err(refusal) => check_refusal(rt, Err(refusal), number, place)?,
+    /// A walk over all tuples that answer: each answer is the `after` of the next call, till there is none.
+    pub(crate) fn walk(&self, position: usize, query: &Query, tuples: &[Tuple]) {
+        let mut after = None;
+        for tuple in tuples {
+            self.finds(position, query, after, Some(*tuple));
+            after = Some(*tuple);
         }
-    }
-    Ok(())
-}
-
-fn found<J: Journal>(
-    j: &J,
-    position: usize,
-    query: &Query,
-    after: Option<Tuple>,
-) -> Result<Option<Tuple>, Fail> {
-    match j.find(position, query, after) {
-        Ok(tuple) => Ok(tuple),
-        Err(_) => Err(Fail::new("find refused")),
+        self.finds(position, query, after, None);
     }
 }
 
-/// Other values behind the first `count`.
-fn noisy(tuple: Tuple, count: u8) -> Tuple {
-    match count {
-        0 => [7, 4294967295, 9],
-        1 => [tuple[0], 4294967295, 9],
-        2 => [tuple[0], tuple[1], 4294967295],
-        _ => tuple,
-    }
-}
-
-fn noisy_after(after: Option<Tuple>, count: u8) -> Option<Tuple> {
-    match after {
-        Some(tuple) => Some(noisy(tuple, count)),
-        None => None,
-    }
+/// The first `count` items, and other items behind them.
+fn behind<T: Copy>(count: u8, items: [T; 3], others: [T; 3]) -> [T; 3] {
+    let kept = usize::from(count).min(3);
+    let mut mixed = others;
+    mixed[..kept].copy_from_slice(&items[..kept]);
+    mixed
 }
 
 /// The same question, with values given behind the count.
-fn noisy_query(query: &Query) -> Query {
-    let [x, y, z] = query.given;
-    let given = match query.count {
-        0 => [Some(1), Some(0), Some(2)],
-        1 => [x, Some(0), Some(2)],
-        2 => [x, y, Some(2)],
-        _ => [x, y, z],
-    };
+fn query_with_noise(query: &Query) -> Query {
+    let Arguments { count, first } = query.given;
+    let first = behind(count, first, [Some(1), Some(0), Some(2)]);
     Query {
         predicate: query.predicate,
-        count: query.count,
-        given,
+        given: Arguments { count, first },
     }
-}
-
-/// What a find answers, and that what stands behind the count doesn't matter.
-pub(crate) fn finds<J: Journal>(
-    rt: &impl Abort,
-    j: &J,
-    position: usize,
-    query: &Query,
-    after: Option<Tuple>,
-    wanted: Option<Tuple>,
-) -> Result<(), Fail> {
-    assert_eq!(rt; found(j, position, query, after)?, wanted);
-    let noisy = found(
-        j,
-        position,
-        &noisy_query(query),
-        noisy_after(after, query.count),
-    )?;
-    assert_eq!(rt; noisy, wanted, "what stands behind the count matters");
-    Ok(())
-}
-
-/// A walk over all tuples that answer: each answer is the `after` of the next call, till there is none.
-pub(crate) fn walk<J: Journal>(
-    rt: &impl Abort,
-    j: &J,
-    position: usize,
-    query: &Query,
-    tuples: &[Tuple],
-) -> Result<(), Fail> {
-    let mut after = None;
-    for tuple in tuples {
-        finds(rt, j, position, query, after, Some(*tuple))?;
-        after = Some(*tuple);
-    }
-    finds(rt, j, position, query, after, None)
 }

@@ -31,26 +31,27 @@ def lines_with(files, pattern):
                 yield f"{name}:{number}", line.strip()
 
 
+def behind_closing(text, start, opening, closing):
+    """Behind the bracket that closes the one before `start`."""
+    depth = 1
+    while depth:
+        depth += {opening: 1, closing: -1}.get(text[start], 0)
+        start += 1
+    return start
+
+
 def functions(files):
     """Name, parameters, clauses and body of each function."""
     for name, text in files:
         for m in re.finditer(r"\bfn (\w+)(<[^(]*>)?\(", text):
-            depth, i = 1, m.end()
-            while depth:
-                depth += {"(": 1, ")": -1}.get(text[i], 0)
-                i += 1
+            i = behind_closing(text, m.end(), "(", ")")
             params, start = text[m.end():i - 1], i
             # The body is the first block that begins a line of its own, or ends the line of the signature.
             b = re.compile(r"^[ ]*\{|\{$|^[ ]*\{\}|;$", re.M).search(text, start)
             if not b or text[b.end() - 1] == ";" and "{" not in b.group():
                 continue
-            j, depth = text.index("{", b.start()), 0
-            end = j
-            while True:
-                depth += {"{": 1, "}": -1}.get(text[end], 0)
-                end += 1
-                if depth == 0:
-                    break
+            j = text.index("{", b.start())
+            end = behind_closing(text, j + 1, "{", "}")
             clauses = text[start:j]
             yield f"{name}:{text.count(chr(10), 0, m.start()) + 1} {m.group(1)}", params, clauses, text[j:end]
 
@@ -82,10 +83,7 @@ def twins(files):
 def enums(files):
     for name, text in files:
         for m in re.finditer(r"\benum (\w+)[^{]*\{", text):
-            depth, i = 1, m.end()
-            while depth:
-                depth += {"{": 1, "}": -1}.get(text[i], 0)
-                i += 1
+            i = behind_closing(text, m.end(), "{", "}")
             body = re.sub(r"\{[^{}]*\}|\([^()]*\)", "()", text[m.end():i - 1])
             count = len([v for v in body.split(",") if v.strip()])
             if count <= 2:

@@ -13,13 +13,15 @@ fn main(rt: HostRuntime) -> anyhow::Result<ExitCode> {
     let heap = rt.alloc();
     let mut hub = Hub::new();
     let lines = BufReader::new(heap, rt.stdin())?.split(heap, b'\n');
-    for (number, line) in (1u64..).zip(lines) {
+    // Numbers from 0: a range ends before the greatest of its type, and no line may be left out for want of a number.
+    for (before, line) in (0u64..).zip(lines) {
         let line = line?;
         let line = line.as_slice();
         if script::is_passed_over(line) {
             continue;
         }
         let Some(command) = script::read(line) else {
+            let number = before.saturating_add(1);
             eprint!(rt; "line {number}: cannot read: ")?;
             rt.stderr().write_all(line)?;
             eprintln!(rt)?;

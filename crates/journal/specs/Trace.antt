@@ -75,6 +75,10 @@ unless test e = cond test (Err e) (Ok tt)
 abbrev pub affordable : Standing → ℕ → Result (Unit {0}) Refusal
 affordable w cost = unless (nat_lt w.free cost) (refusal_at NoRoom w.shown)
 
+-- whether a commit is taken, whatever it costs, and else the first refusal
+abbrev pub allowed_position : Standing → ℕ → List Fact → Result (Unit {0}) Refusal
+allowed_position w s xs = result_and (sound_from 0 xs) (unless (nat_lt s w.next) (refusal_at StampTooLow w.shown))
+
 -- whether a commit that costs so much is taken, and else the first refusal
 abbrev pub allowed_commit : Standing → ℕ → List Fact → ℕ → Result (Unit {0}) Refusal
 allowed_commit w s xs cost =

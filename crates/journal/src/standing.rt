@@ -1,6 +1,6 @@
 //! The refusals that are the same in every store of facts, whatever a mark and a fact cost there.
 ghost use Rattle.std.specs.Prelude.{◌≡◌};
-ghost use Rattle.journal.specs.Trace.{affordable, allowed_commit, allowed_late};
+ghost use Rattle.journal.specs.Trace.{affordable, allowed_position, allowed_commit, allowed_late};
 
 use crate::journal::{Stamp, check_facts};
 use facts::Fact;
@@ -18,14 +18,22 @@ pub struct Standing {
 }
 
 impl Standing {
-    /// Ok if a commit of these facts, at this cost, may be taken, else the first refusal.
-    pub fn allow_commit(self, stamp: Stamp, facts: &[Fact], cost: usize) -> Result<(), Refusal>
-        ensures { result ≡ allowed_commit self stamp facts.now cost }
+    /// Ok if a commit of these facts may be taken, whatever it costs, else the first refusal.
+    pub fn allow_position(self, stamp: Stamp, facts: &[Fact]) -> Result<(), Refusal>
+        ensures { result ≡ allowed_position self stamp facts.now }
     {
         check_facts(facts)?;
         if u64::from(stamp) < self.next {
             return Err(Cause::StampTooLow.at(self.shown));
         }
+        Ok(())
+    }
+
+    /// Ok if a commit of these facts, at this cost, may be taken, else the first refusal.
+    pub fn allow_commit(self, stamp: Stamp, facts: &[Fact], cost: usize) -> Result<(), Refusal>
+        ensures { result ≡ allowed_commit self stamp facts.now cost }
+    {
+        self.allow_position(stamp, facts)?;
         self.afford(cost)
     }
 
@@ -43,7 +51,7 @@ impl Standing {
     }
 
     /// Ok if the free units cover the cost.
-    fn afford(self, cost: usize) -> Result<(), Refusal>
+    pub fn afford(self, cost: usize) -> Result<(), Refusal>
         ensures { result ≡ affordable self cost }
     {
         if self.free < cost {

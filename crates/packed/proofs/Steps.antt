@@ -1,6 +1,8 @@
 -- What is written, and how long it is.
-use Rattle.std.proofs.Common.{◌≡◌, ℕ, ◌+◌, ◌*◌, ◌^◌, ◌<◌, min, true, List, [], ◌∷◌, ◌++◌, length, get_or, take, fold, sym, refl, ap, ◌∙◌, inl, inr, append_assoc, arith, length-append}
+use Rattle.std.proofs.Common.{◌≡◌, ℕ, ◌+◌, ◌*◌, ◌^◌, ◌<◌, ◌≤◌, min, true, List, [], ◌∷◌, ◌++◌, length, get_or, take, sym, refl, Result, Ok, Err, ap, ◌∙◌, inl, inr, append_assoc, arith, length-append}
 use Rattle.std.specs.Int.{to_le_bytes, w16, w32}
+use Rattle.std.specs.Result.{result_and}
+use Rattle.refusal.specs.declared.Refusal.{Refusal}
 use Rattle.std.specs.List.{flat_map, AllByRecursion}
 use Rattle.std.proofs.lemmas.List.{take_more, flat_map_more}
 use Rattle.std.proofs.lemmas.Bool.{and_parts, ltb-true, lt-ltb, le-ltb, cases_lt}
@@ -8,28 +10,29 @@ use Rattle.facts.specs.declared.Fact.{Fact}
 use Rattle.facts.specs.Tuples.{arguments, recordable}
 use Rattle.facts.proofs.Tuples.{three_taken}
 use Rattle.journal.specs.declared.Standing.{Standing}
-use Rattle.journal.specs.Trace.{costs, allowed_commit}
-use Rattle.reserved.specs.Room.{Room, room}
+use Rattle.journal.specs.Trace.{sound_from, affordable, allowed_position, allowed_commit}
+use Rattle.reserved.specs.Room.{Room, holding}
 use Rattle.packed.specs.Format.{Item, mark, le, encode_item, Good, Whole}
 use Rattle.packed.specs.Meaning.{width, written, fact_cost, Put}
 use Rattle.packed.specs.Coding.{put_item}
 use Rattle.packed.specs.Digits.{length_le, length_les}
 use Rattle.packed.proofs.Bytes.{le_two, le_four}
 
-put_one : (i j : Room ℕ) (x : Item) (n : ℕ) → Whole width i.items → Good width x → j ≡ room (i.items ++ encode_item width x) i.limit → length (encode_item width x) ≡ n → Put i j (x ∷ []) n
+put_one : (i j : Room ℕ) (x : Item) (n : ℕ) → Whole width i.items → Good width x → j ≡ holding i (i.items ++ encode_item width x) → length (encode_item width x) ≡ n → Put i j (x ∷ []) n
 put_one i j x n w g e l =
     let now : j.items ≡ i.items ++ encode_item width x = ap (λ r. r.items) e in
     record {
       puts = put_item width i.items j.items x w g now;
       len = ap (λ b. length b) now ∙ length-append i.items (encode_item width x) ∙ ap (λ k. length i.items + k) l;
       limit = ap (λ r. r.limit) e;
+      block = ap (λ r. r.block) e;
     }
 
 pub mark_put : (i a j : Room ℕ) (s : ℕ) (bs : List ℕ) → Whole width i.items → s < 256 ^ 4
-    → a ≡ room (i.items ++ 255 ∷ []) i.limit → bs ≡ to_le_bytes w32 s → j ≡ room (a.items ++ bs) a.limit → Put i j (mark s ∷ []) 5
+    → a ≡ holding i (i.items ++ 255 ∷ []) → bs ≡ to_le_bytes w32 s → j ≡ holding a (a.items ++ bs) → Put i j (mark s ∷ []) 5
 mark_put i a j s bs w g ea eb ej =
     put_one i j (mark s) 5 w g
-    (ej ∙ ap (λ (r : Room ℕ). room (r.items ++ bs) r.limit) ea ∙ ap (λ l. room l i.limit) (append_assoc i.items (255 ∷ []) bs ∙ ap (λ l. i.items ++ 255 ∷ l) (eb ∙ le_four s)))
+    (ej ∙ ap (λ (r : Room ℕ). holding r (r.items ++ bs)) ea ∙ ap (λ l. holding i l) (append_assoc i.items (255 ∷ []) bs ∙ ap (λ l. i.items ++ 255 ∷ l) (eb ∙ le_four s)))
     (omega (arith, length_le 4 s))
 
 -- one value more
@@ -40,8 +43,8 @@ values_more i v old now then vs bs h e inv eb put =
     put ∙ ap (λ l. now ++ l) (eb ∙ le_four v) ∙ ap (λ l. l ++ le width v) inv ∙ flat_map_more (le width) old (take i vs) v ∙ ap (λ l. old ++ flat_map (le width) l) (sym more)
 
 pub fact_put : (i a b j : Room ℕ) (p : ℕ) (x : Fact) (bs vs : List ℕ) → Whole width i.items → recordable x ≡ true → p < 256 ^ 2
-    → AllByRecursion (λ v. v < 256 ^ width) vs → a ≡ room (i.items ++ (x.predicate + 32 * x.values.count) ∷ []) i.limit → bs ≡ to_le_bytes w16 p
-    → b ≡ room (a.items ++ bs) a.limit → vs ≡ arguments x → j ≡ room (b.items ++ flat_map (le width) vs) b.limit
+    → AllByRecursion (λ v. v < 256 ^ width) vs → a ≡ holding i (i.items ++ (x.predicate + 32 * x.values.count) ∷ []) → bs ≡ to_le_bytes w16 p
+    → b ≡ holding a (a.items ++ bs) → vs ≡ arguments x → j ≡ holding b (b.items ++ flat_map (le width) vs)
     → Put i j (written p x ∷ []) (fact_cost x.values.count)
 fact_put i a b j p x bs vs w r q f ea es eb ev ej =
     let s = and_parts _ _ r in
@@ -54,16 +57,17 @@ fact_put i a b j p x bs vs w r q f ea es eb ev ej =
     (rw (ej, eb, ea, es, ev, le_two p, n, append_assoc i.items (head ∷ []) (le 2 p), append_assoc i.items (head ∷ le 2 p) (flat_map (le width) (arguments x))) refl)
     (omega (arith, length-append (le 2 p) (flat_map (le width) (arguments x)), length_le 2 p, length_les width (arguments x), n))
 
--- the cost of facts, which stops at the most that can be counted
-pub facts_cost : (m k : ℕ) (xs : List Fact) → fold (λ n x. min (n + fact_cost x.values.count) m) (min k m) xs ≡ min (k + costs fact_cost xs) m
-facts_cost m k [] = omega arith
-facts_cost m k (x ∷ xs) =
-    ap (λ n. fold (λ n x. min (n + fact_cost x.values.count) m) n xs) (let e : min (min k m + fact_cost x.values.count) m ≡ min (k + fact_cost x.values.count) m = omega arith in e)
-    ∙ facts_cost m (k + fact_cost x.values.count) xs ∙ ap (λ n. min n m) (let e : k + fact_cost x.values.count + costs fact_cost xs ≡ k + (fact_cost x.values.count + costs fact_cost xs) = omega arith in e)
+through : (r q p : Result (Unit {0}) Refusal) → result_and (result_and r q) p ≡ result_and r (result_and q p)
+through (Ok x) q p = refl
+through (Err e) q p = refl
 
--- a cost that stops there is refused where the whole cost is
-pub allowed_capped : (w : Standing) (s : ℕ) (xs : List Fact) (m c : ℕ) → w.free < m → allowed_commit w s xs (min (min c m + 5) m) ≡ allowed_commit w s xs (5 + c)
-allowed_capped w s xs m c h = elim (cases_lt w.free (5 + c)) [
-  | inl l ↦ rw (lt-ltb w.free (5 + c) l, lt-ltb w.free (min (min c m + 5) m) (omega arith)) refl
-  | inr l ↦ rw (le-ltb w.free (5 + c) l, le-ltb w.free (min (min c m + 5) m) (omega arith)) refl
+-- what a commit costs is asked last
+pub asked_last : (w : Standing) (s : ℕ) (xs : List Fact) (c : ℕ) → result_and (allowed_position w s xs) (affordable w c) ≡ allowed_commit w s xs c
+asked_last w s xs c = through (sound_from 0 xs) _ _
+
+-- counting a cost up to the free units tells whether the free units cover it
+pub capped : (w : Standing) (f c m : ℕ) → w.free ≡ f → f + 5 ≤ m → affordable w (min (min c f + 5) m) ≡ affordable w (5 + c)
+capped w f c m e h = elim (cases_lt w.free (5 + c)) [
+  | inl l ↦ rw (lt-ltb w.free (5 + c) l, lt-ltb w.free (min (min c f + 5) m) (omega arith)) refl
+  | inr l ↦ rw (le-ltb w.free (5 + c) l, le-ltb w.free (min (min c f + 5) m) (omega arith)) refl
 ]

@@ -100,8 +100,9 @@ abbrev pub fact_in : ℕ → Entry → Option Fact
 fact_in p (Mark s) = None
 fact_in p (Noted n x) = cond (p == n) (Some x) None
 
--- these items, of n bytes, were put behind those that the reserved bytes write
+-- these items, of n bytes, were put behind those that the reserved bytes write, in the same block of memory
 pub record Put (was now : Room ℕ) (xs : List Item) (n : ℕ) : Type 0 where
   pub puts : Puts width was.items now.items xs
   pub len : length now.items ≡ length was.items + n
   pub limit : now.limit ≡ was.limit
+  pub block : now.block ≡ was.block

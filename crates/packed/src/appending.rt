@@ -69,8 +69,10 @@ impl Journal for Packed {
         ensures keeps { Unit {0} }
         ensures puts { Appends self.old self.new (mark stamp ∷ all_written (shown (trace_of self.old)) facts.now) result }
     {
-        let cost = facts_size(facts).saturating_add(MARK);
-        self.standing().allow_commit(stamp, facts, cost)?;
+        let standing = self.standing();
+        standing.allow_position(stamp, facts)?;
+        // Counted only now, and only as far as there is room: a long list that is refused costs no more than it must.
+        standing.afford(facts_size(facts, standing.free).saturating_add(MARK))?;
         let position = self.shown as u16;
         self.items.put_mark(stamp);
         self.items.put_facts(position, facts);

@@ -33,11 +33,16 @@ pub(crate) fn body_size(head: u8) -> usize
     }
 }
 
-/// The bytes of these facts, or the most that can be counted.
-pub(crate) fn facts_size(facts: &[Fact]) -> usize
-    ensures { result ≡ min (costs fact_cost facts.now) usize.MAX }
+/// The bytes of these facts, or `most` where they take as many or more. It looks at no fact behind those that reach `most`.
+pub(crate) fn facts_size(facts: &[Fact], most: usize) -> usize
+    ensures { result ≡ min (costs fact_cost facts.now) most }
 {
-    facts.iter().fold(0usize, |size, fact| {
-        size.saturating_add(fact_size(fact.values.count))
-    })
+    let mut size: usize = 0;
+    for fact in facts {
+        size = size.saturating_add(fact_size(fact.values.count));
+        if size >= most {
+            return most;
+        }
+    }
+    size
 }

@@ -3,7 +3,7 @@ ghost use Rattle.std.specs.Prelude.{◌≡◌, ◌+◌, ◌-◌, ◌*◌, ◌^�
 ghost use Rattle.std.specs.List.{flat_map, AllByRecursion};
 ghost use Rattle.facts.specs.Tuples.{recordable};
 ghost use Rattle.journal.specs.Trace.{costs, sound_from};
-ghost use Rattle.reserved.specs.Room.{room};
+ghost use Rattle.reserved.specs.Room.{holding};
 ghost use Rattle.packed.specs.Format.{mark, le, encode, items_of, Whole};
 ghost use Rattle.packed.specs.Meaning.{width, written, all_written, fact_cost, Put};
 
@@ -27,7 +27,7 @@ pub(crate) struct Items {
 impl Items {
     /// No items, with room for `limit` bytes.
     pub(crate) fn new(heap: Global, limit: usize) -> Result<Items, AllocError>
-        ensures { IfOk result (λ i. i.bytes ≡ room [] limit) }
+        ensures { IfOk result (λ i. (i.bytes.items ≡ []) × (i.bytes.limit ≡ limit)) }
     {
         let bytes = Reserved::new(heap, limit)?;
         Ok(Items { bytes })
@@ -90,7 +90,7 @@ impl Items {
 fn put_values(bytes: &mut Reserved<u8>, values: &[Value])
     requires { length bytes.old.items + width * length values.now ≤ bytes.old.limit }
     ensures fits { AllByRecursion (λ v. v < 256 ^ width) values.now }
-    ensures bytes { bytes.new ≡ room (bytes.old.items ++ flat_map (le width) values.now) bytes.old.limit }
+    ensures bytes { bytes.new ≡ holding bytes.old (bytes.old.items ++ flat_map (le width) values.now) }
 {
     for value in values {
         bytes.extend_from_slice(&value.to_le_bytes());

@@ -9,12 +9,13 @@ use crate::waits::wait_of;
 use sets::SmallSet;
 
 /// What a search needs to know of a node: its free variables, its wait, whether it keeps rows, and its parent.
+// The wide fields stand first: fields lie in this order, and a note then takes 24 bytes and not 32.
 #[derive(Clone, Copy)]
 pub(crate) struct Note {
-    pub(crate) free: SmallSet,
     pub(crate) wait: u64,
-    pub(crate) cached: bool,
     pub(crate) parent: usize,
+    pub(crate) free: SmallSet,
+    pub(crate) cached: bool,
 }
 
 /// The notes of the nodes of a table, which has at most 32, by number; those past the last node mean nothing.
@@ -30,10 +31,10 @@ impl Note {
         ensures link { result.parent ≡ n }
     {
         Note {
-            free: SmallSet::none(),
             wait: 0,
-            cached: false,
             parent: n,
+            free: SmallSet::none(),
+            cached: false,
         }
     }
 }
@@ -45,10 +46,10 @@ pub(crate) fn notes_of(outline: Outline) -> Notes
     // A wait reads the notes of lower nodes, so the notes are made in order.
     for (n, node) in outline.nodes.iter().enumerate() {
         notes[n] = Note {
-            free: outline.free_of(n),
             wait: wait_of(*node, n, &notes),
-            cached: outline.is_cached(n),
             parent: parent_of(outline.nodes, n),
+            free: outline.free_of(n),
+            cached: outline.is_cached(n),
         };
     }
     notes

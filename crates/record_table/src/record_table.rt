@@ -119,7 +119,7 @@ impl Journal for RecordTable {
 
     fn commit(&mut self, stamp: Stamp, facts: &[Fact]) -> Result<(), Refusal> {
         self.standing().allow_commit(stamp, facts, 1 + facts.len())?;
-        let position = self.shown();
+        let position = self.shown() as u16;
         self.records.append(position, facts);
         self.stamps.push(stamp);
         self.next = u64::from(stamp) + 1;
@@ -128,7 +128,7 @@ impl Journal for RecordTable {
 
     fn late(&mut self, position: usize, fact: Fact) -> Result<(), Refusal> {
         self.standing().allow_late(position, &fact, 1)?;
-        self.records.insert(position, fact);
+        self.records.insert(position as u16, fact);
         Ok(())
     }
 }

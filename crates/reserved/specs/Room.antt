@@ -1,15 +1,20 @@
 -- What is seen of a vector with reserved room.
 use Rattle.std.specs.Prelude.{ℕ, List, refl}
 use Rattle.std.specs.Coded.{Coded, code_by, coded×, coded_list, coded_ℕ}
+use denote.RawPtr.{Ptr, coded_ptr}
 
--- the items, and how many there may be
+-- the items, how many there may be, and where their memory lies: another block would be another value
 pub record Room (T : Type 0) : Type 0 where
   pub items : List T
   pub limit : ℕ
+  pub block : Ptr
 
 module _ {T : Type 0} where
-  abbrev pub room : List T → ℕ → Room T
-  room xs n = record { items = xs; limit = n }
+  -- the same room, with these items in it
+  abbrev pub holding : Room T → List T → Room T
+  holding r xs = record r { items = xs }
 
   abbrev pub room_code : Coded T → Coded (Room T)
-  room_code c = code_by (List T × ℕ) (coded× (coded_list c) coded_ℕ) (λ r. (r.items, r.limit)) (λ p. room p.0 p.1) (λ _. refl)
+  room_code c =
+      code_by (List T × (ℕ × Ptr)) (coded× (coded_list c) (coded× coded_ℕ coded_ptr)) (λ r. (r.items, (r.limit, r.block)))
+      (λ p. record { items = p.0; limit = p.1.0; block = p.1.1 }) (λ _. refl)

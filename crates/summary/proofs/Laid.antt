@@ -1,6 +1,6 @@
 -- How the rows of one node stand among all rows, and what a change of them leaves.
-use Rattle.std.proofs.Common.{◌≡◌, ℕ, zero, suc, ◌+◌, ◌-◌, ◌<◌, ◌≤◌, List, [], ◌∷◌, ◌++◌, length, get_or, take, drop, set, sum_by, Some, None, Option, sym, refl, ap, ◌∙◌, arith, length-append, length-set, length-drop, length-take-le, take-take, drop-drop, take_at, drop_at, append_assoc, add-one, take-add, take-append-drop}
-use lib.Seq.{set-get_or}
+use Rattle.std.proofs.Common.{◌≡◌, ℕ, zero, suc, ◌+◌, ◌-◌, ◌<◌, ◌≤◌, List, [], ◌∷◌, ◌++◌, length, get_or, take, drop, set, sum_by, Some, None, Option, sym, refl, ap, ◌∙◌, arith, length-append, length-set, length-drop, length-take-le, take-take, drop-drop, take_all, take_at, drop_at, append_assoc, add-one, take-add, take-append-drop}
+use lib.Seq.{take-paste, paste, set-get_or}
 use Rattle.std.specs.Option.{option_map}
 use Rattle.std.proofs.lemmas.List.{take-append-le, drop-append-le, drop-take, set-append_left, set-append_right}
 use Rattle.std.proofs.lemmas.List.Sums.{sum_by-cons, sum_by_more, sum_by-take-le}
@@ -8,9 +8,9 @@ use Rattle.summary.specs.declared.row.Row.{Row}
 use Rattle.summary.specs.Kept.{rows_of, total, added}
 use Rattle.summary.specs.Layout.{size, count_of, before, laid}
 
-pub length-laid : (cs : List (Option ℕ)) (rs : List Row) → length (laid cs rs) ≡ length cs
-length-laid [] rs = refl
-length-laid (c ∷ cs) rs = ap suc (length-laid cs (drop (size c) rs))
+pub length_laid : (cs : List (Option ℕ)) (rs : List Row) → length (laid cs rs) ≡ length cs
+length_laid [] rs = refl
+length_laid (c ∷ cs) rs = ap suc (length_laid cs (drop (size c) rs))
 
 -- the rows of the node n
 pub laid_at : (cs : List (Option ℕ)) (rs : List Row) (n : ℕ) → get_or (laid cs rs) n (Some []) ≡ option_map (λ k. take k (drop (before n cs) rs)) (count_of cs n)
@@ -19,6 +19,14 @@ laid_at (c ∷ cs) rs zero = refl
 laid_at (c ∷ cs) rs (suc n) =
     laid_at cs (drop (size c) rs) n
     ∙ ap (λ (l : List Row). option_map (λ k. take k l) (count_of cs n)) (drop-drop (before n cs) (size c) rs ∙ ap (λ (b : ℕ). drop b rs) (sym (sum_by-cons size c (take n cs))))
+
+-- rows that are moved down over others, and the end cut off
+pub cut_is : (b k n : ℕ) (rs : List Row) → n ≡ length rs → b + k ≤ n → take (n - k) (paste rs b (drop (b + k) rs) (n - (b + k))) ≡ take b rs ++ drop (b + k) rs
+cut_is b k n rs e h =
+    let w : n - k ≡ b + (n - (b + k)) = omega arith in
+    ap (λ (m : ℕ). take m (paste rs b (drop (b + k) rs) (n - (b + k)))) w
+    ∙ take-paste rs b (drop (b + k) rs) (n - (b + k)) (omega arith) (omega (arith, length-drop (b + k) rs))
+    ∙ ap (λ (l : List Row). take b rs ++ l) (take_all (n - (b + k)) (drop (b + k) rs) (omega (arith, length-drop (b + k) rs)))
 
 -- the rows of n lie within all rows
 pub within : (cs : List (Option ℕ)) (n : ℕ) → n < length cs → before n cs + size (count_of cs n) ≤ sum_by size cs

@@ -1,6 +1,7 @@
 -- What the ghost fields of a table say of its nodes.
-use Rattle.std.proofs.Common.{◌≡◌, ℕ, ◌+◌, ◌<◌, ◌≤◌, Bool, true, false, ltb, List, [], ◌∷◌, ◌++◌, take, length, length-append, get_or, get_or-drop, get_or-take, length-take-le, length-drop, set, replicate, drop, sum_by, Some, None, Option, vec_len, sym, refl, ap, ◌∙◌, inl, inr, arith, take_all, get_or-set_same, get_or-set_other}
+use Rattle.std.proofs.Common.{◌≡◌, ℕ, ◌+◌, ◌-◌, ◌<◌, ◌≤◌, Bool, true, false, ltb, List, [], ◌∷◌, ◌++◌, take, length, length-append, get_or, get_or-drop, get_or-take, length-take-le, length-drop, set, replicate, drop, sum_by, Some, None, Option, vec_len, sym, refl, ap, ◌∙◌, inl, inr, arith, take_all, get_or-set_same, get_or-set_other}
 use lib.ListN.{get_or-eq_default}
+use lib.Seq.{paste}
 use Rattle.std.specs.Option.{option_map}
 use Rattle.std.specs.List.{slice_get}
 use Rattle.std.specs.Bool.{then_some}
@@ -14,7 +15,7 @@ use Rattle.summary.specs.Kept.{rows_of, total, no_row, Elsewhere, Tabled, Length
 use Rattle.summary.specs.Layout.{size, count_of, before, laid, place_of}
 use Rattle.summary.specs.Held.{held_by}
 use Rattle.summary.proofs.Declining.{same_all}
-use Rattle.summary.proofs.Laid.{laid_at, within, size_laid, total_laid, length-laid, rows_at, kept, lost, changed_at}
+use Rattle.summary.proofs.Laid.{laid_at, within, size_laid, total_laid, length_laid, rows_at, cut_is, kept, lost, changed_at}
 
 module _ (t : RowTable) where
   pub long : vec_len t.rows ≡ length t.rows.items
@@ -51,7 +52,7 @@ module _ (t : RowTable) where
       → Elsewhere n (held_by t) (λ m. get_or L m (Some [])) × (get_or L n (Some []) ≡ o)
   edited n o L l e = (
     λ m ne. ap (λ (M : List (Option (List Row))). get_or M m (Some [])) e ∙ get_or-set_other (laid t.counts t.rows.items) n m o (Some []) ne,
-    ap (λ (M : List (Option (List Row))). get_or M n (Some [])) e ∙ get_or-set_same (laid t.counts t.rows.items) n o (Some []) (omega (arith, l, length-laid t.counts t.rows.items)),
+    ap (λ (M : List (Option (List Row))). get_or M n (Some [])) e ∙ get_or-set_same (laid t.counts t.rows.items) n o (Some []) (omega (arith, l, length_laid t.counts t.rows.items)),
   )
 
   -- a row that is offered to a lost node
@@ -64,6 +65,14 @@ module _ (t : RowTable) where
   module _ (n k : ℕ) (r : Row) (lies : n < 32) (is : count_of t.counts n ≡ Some k) where
     here : before n t.counts + k ≤ length t.rows.items
     here = omega (arith, inside n, ap size is, long)
+
+    -- what is left once the rows behind the node's have moved down over them, and the end is cut off
+    pub cut : (start len : ℕ) (moved rs : List Row) → start ≡ before n t.counts → len ≡ length t.rows.items
+        → moved ≡ paste t.rows.items start (drop (start + k) t.rows.items) (len - (start + k)) → rs ≡ take (len - k) moved
+        → rs ≡ take (before n t.counts) t.rows.items ++ drop (before n t.counts + k) t.rows.items
+    cut start len moved rs s l m e =
+        e ∙ ap (take (len - k)) (m ∙ ap (λ (b : ℕ). paste t.rows.items b (drop (b + k) t.rows.items) (len - (b + k))) s)
+        ∙ cut_is (before n t.counts) k len t.rows.items l (omega (arith, l, here))
 
     pub taken : (rs : List Row) → rs ≡ take (before n t.counts + k) t.rows.items ++ (r ∷ drop (before n t.counts + k) t.rows.items) → vec_len t.rows < 512
         → Tabled (held_by t) n r (λ m. get_or (laid (set t.counts n (Some (k + 1))) rs) m (Some []))

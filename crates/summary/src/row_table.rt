@@ -92,7 +92,10 @@ impl Keeper for RowTable {
             self.rows.insert(start + count, row).unwrap();
             self.counts[node] = Some(count + 1);
         } else {
-            self.rows.drain(start..start + count);
+            // Not by `drain`, which turns round all rows from `start` on where it is enough to move those behind the node's.
+            let len = self.rows.len();
+            self.rows.copy_within(start + count..len, start);
+            self.rows.truncate(len - count);
             self.counts[node] = None;
         }
     }

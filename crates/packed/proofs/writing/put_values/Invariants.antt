@@ -9,4 +9,5 @@ invariant-loop-value l = record {
   items : l.bytes.items ≡ l.fn.bytes.items ++ flat_map (le width) (take l.value-index l.values);
   len : length l.bytes.items ≡ length l.fn.bytes.items + width * l.value-index;
   limit : l.bytes.limit ≡ l.fn.bytes.limit;
+  block : l.bytes.block ≡ l.fn.bytes.block;
 }

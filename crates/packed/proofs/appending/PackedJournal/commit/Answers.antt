@@ -1,10 +1,11 @@
-use Rattle.std.proofs.Common.{◌≡◌, ℕ, ◌+◌, ◌-◌, ◌<◌, ◌≤◌, min, [], ◌∷◌, length, Ok, sym, refl, ap, ◌∙◌, subst, arith, rules}
-use Rattle.journal.specs.Trace.{Added, sound_from, costs, allowed_commit}
+use Rattle.std.proofs.Common.{◌≡◌, ℕ, ◌+◌, ◌-◌, ◌≤◌, min, [], ◌∷◌, length, Ok, sym, refl, ap, ◌∙◌, subst, arith, rules}
+use Rattle.std.specs.Result.{result_and}
+use Rattle.journal.specs.Trace.{Added, sound_from, costs, affordable, allowed_commit}
 use Rattle.packed.specs.Format.{mark}
 use Rattle.packed.specs.Meaning.{width, all_written, fact_cost, bytes_facts}
 use Rattle.packed.specs.Coding.{puts_both}
 use Rattle.packed.specs.Growth.{Kept, kept, marks_few, commit_stamps, commit_kept, commit_added}
-use Rattle.packed.proofs.Steps.{allowed_capped}
+use Rattle.packed.proofs.Steps.{asked_last, capped}
 use Rattle.packed.proofs.appending.PackedJournal.commit.Goals as goal
 
 pub overflow_cast-position : goal.overflow_cast-position
@@ -32,17 +33,19 @@ returns-clause-does c =
     let s = c.args.stamp in
     let fs = c.args.facts.now in
     let e = puts_both width was _ now (mark s ∷ []) (all_written i.shown fs) c.put_mark.ensures.puts c.put_facts.ensures.puts in
-    let allowed : Ok tt ≡ c.allow_commit.result = search rules in
     let high : i.next ≤ s = search rules in
     let sound : sound_from 0 fs ≡ Ok tt = search rules in
     let room : 5 + costs fact_cost fs ≤ i.items.bytes.limit - length was = search rules in
     let n = commit_kept was now i.shown i.next s fs (kept i) high e in
-    let w = c.standing.result in
-    let free : w.free < 18446744073709551615 = omega (arith, i.bounded, ap (λ v. v.free) c.standing.ensures) in
+    let w = c.standing-standing.result in
+    let e-w = c.standing-standing.ensures in
+    let cost = costs fact_cost fs in
+    let bound : w.free + 5 ≤ 18446744073709551615 = omega (arith, i.bounded, ap (λ v. v.free) e-w) in
+    let counted = c.saturating_add.ensures ∙ ap (λ n. min (n + 5) 18446744073709551615) c.facts_size.ensures in
+    let allowed : Ok tt ≡ result_and c.allow_position.result c.afford.result = search rules in
     record {
-      answer = allowed ∙ c.allow_commit.ensures
-          ∙ ap (λ n. allowed_commit w s fs n) (c.saturating_add-cost.ensures ∙ ap (λ n. min (n + 5) 18446744073709551615) c.facts_size.ensures)
-          ∙ allowed_capped w s fs 18446744073709551615 (costs fact_cost fs) free ∙ ap (λ v. allowed_commit v s fs (5 + costs fact_cost fs)) c.standing.ensures;
+      answer = allowed ∙ (λ k. result_and (c.allow_position.ensures k) ((c.afford.ensures ∙ ap (affordable w) counted ∙ capped w w.free cost _ refl bound) k))
+          ∙ asked_last w s fs (5 + cost) ∙ ap (λ v. allowed_commit v s fs (5 + cost)) e-w;
       taken = λ _. record {
         facts = subst (λ (p : ℕ). Added (bytes_facts was) (bytes_facts now) p fs) i.counted (commit_added was now i.shown i.next s fs (kept i) high e sound);
         stamps = commit_stamps was now i.shown i.next s fs (kept i) high e;

@@ -11,11 +11,11 @@ put_fact-requires c =
 pub loop-fact-preserved : goal.loop-fact-preserved
 loop-fact-preserved c =
     let e = c.put_fact.ensures in
-    record { left = left_next _ _ _ _ _ _ _ _ _ _ _ _ (drop_more _ _ _ c.loop-fact-test.true) c.loop-fact.invariant.left e.puts e.len; limit = e.limit ∙ c.loop-fact.invariant.limit }
+    record { left = left_next _ _ _ _ _ _ _ _ _ _ _ _ (drop_more _ _ _ c.loop-fact-test.true) c.loop-fact.invariant.left e.puts e.len; limit = e.limit ∙ c.loop-fact.invariant.limit; block = e.block ∙ c.loop-fact.invariant.block }
 
 pub returns : goal.returns
 returns c =
     let i = c.args.self.now.bytes.items in
     let j = c.loop-fact.self.bytes.items in
     let d = left_done c.args.position c.loop-fact.fact-index i j (length i) (length j) c.args.facts.now _ (drop_all _ _ c.loop-fact-test.false) c.loop-fact.invariant.left in
-    record { puts = d.0; len = d.1; limit = c.loop-fact.invariant.limit }
+    record { puts = d.0; len = d.1; limit = c.loop-fact.invariant.limit; block = c.loop-fact.invariant.block }

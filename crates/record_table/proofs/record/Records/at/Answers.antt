@@ -9,12 +9,12 @@ pub returns : goal.returns
 returns c =
     let p = c.args.position in
     let rs = c.as_slice-records.result.now in
-    let i = c.partition_point.result in
+    let i = c.partition_point-start.result in
     let from = c.split_at.result.1.now in
     let n : Record → _ = λ r. r.position in
     let e : rs ≡ c.self.inside.records.items = c.as_slice-records.ensures in
     let up : Sorted rs = subst Sorted (sym e) c.self.invariant in
     let up_from : Sorted from = subst Sorted (sym c.split_at.ensures.back) (IsNonDecreasingBy-drop n i rs up) in
-    let before = IsPartitionPoint-from_clause (λ (r : Record). ltb r.position p) rs i c.partition_point.ensures.partitioned (IsPartitionedBy-ltb n rs p up) (λ a r q k. search rules) in
-    let upto = IsPartitionPoint-from_clause (λ (r : Record). leb r.position p) from _ c.partition_point-2.ensures.partitioned (IsPartitionedBy-leb n from p up_from) (λ a r q k. search rules) in
+    let before = IsPartitionPoint-from_clause (λ (r : Record). ltb r.position p) rs i c.partition_point-start.ensures.partitioned (IsPartitionedBy-ltb n rs p up) (λ a r q k. search rules) in
+    let upto = IsPartitionPoint-from_clause (λ (r : Record). leb r.position p) from _ c.partition_point-end.ensures.partitioned (IsPartitionedBy-leb n from p up_from) (λ a r q k. search rules) in
     c.split_at-2.ensures.front ∙ at_between p rs from i _ c.split_at.ensures.back before upto ∙ ap (λ l. filter (λ (r : Record). eqb p r.position) l) (e ∙ ap (λ v. v.items) c.self.view_is)

@@ -1,6 +1,6 @@
 use Rattle.std.proofs.Common.{◌≡◌, leb, insert, subst, sym, ap, ◌∙◌, List, rules}
 use Rattle.std.proofs.lemmas.List.Sorted.{IsPartitionPoint-from_clause, IsPartitionedBy-leb}
-use Rattle.reserved.specs.Room.{room}
+use Rattle.reserved.specs.Room.{holding}
 use Rattle.record_table.specs.declared.record.Record.{Record}
 use Rattle.record_table.specs.Records.{Sorted, record_at, with_record}
 use Rattle.record_table.proofs.Sorted.{inserted}
@@ -23,4 +23,4 @@ pub invariant_of-self : goal.invariant_of-self
 invariant_of-self c = rw c.insert.ensures (put c).0
 
 pub returns : goal.returns
-returns c = c.insert.ensures ∙ ap (λ (l : List Record). room l c.self.inside.records.limit) (put c).1 ∙ ap (λ v. room (with_record v.items c.args.position c.args.fact) v.limit) c.self.view_is
+returns c = c.insert.ensures ∙ ap (λ (l : List Record). holding c.self.inside.records l) (put c).1 ∙ ap (λ v. holding v (with_record v.items c.args.position c.args.fact)) c.self.view_is

@@ -23,7 +23,7 @@ pub struct RowTable {
     ghost sized: { length counts ≡ 32 },
     ghost counted: { vec_len rows ≡ sum_by size counts },
     ghost few: { vec_len rows ≤ 512 },
-    ghost reserved: { 512 ≤ vec_capacity rows },
+    ghost reserved: { vec_capacity rows ≡ 512 },
 }
 
 impl RowTable {

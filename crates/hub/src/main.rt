@@ -13,7 +13,7 @@ fn main(rt: HostRuntime) -> anyhow::Result<ExitCode> {
     let heap = rt.alloc();
     let mut hub = Hub::new();
     let lines = BufReader::new(heap, rt.stdin())?.split(heap, b'\n');
-    // Numbers from 0: a range ends before the greatest of its type, and no line may be left out for want of a number.
+    // Numbers from 0: a range ends before the greatest of its type, and this one lasts until the reader gives up with an error.
     for (before, line) in (0u64..).zip(lines) {
         let line = line?;
         let line = line.as_slice();
